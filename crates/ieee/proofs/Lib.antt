@@ -1,0 +1,10 @@
+-- The laws of floats, over the format: NaN, the order, rounding, sums, products, whole numbers and bounds; and the bits of a rounded value.
+pub mod Nan
+pub mod Signed
+pub mod Order
+pub mod Own
+pub mod Sums
+pub mod Products
+pub mod Whole
+pub mod Within
+pub mod Encode

@@ -1,0 +1,8 @@
+-- The whole root, what it says of the rounded one, its order, and the bits of a value above zero.
+pub mod Whole
+pub mod Rounded
+pub mod Marks
+pub mod Monotone
+pub mod Square
+pub mod Value
+pub mod Decode

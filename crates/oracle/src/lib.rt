@@ -1,0 +1,157 @@
+// The C names under which tools/oracle calls the functions that it holds beside the Rust. Each says
+// no more than the function that it calls.
+ghost use mathlib.Core.Path.{_≡_};
+ghost use lib.Ieee.{isNan};
+ghost use Rattle.ieee.specs.Number.{absOf, maxOf, clamp01Of, leastOf};
+ghost use Rattle.ieee.specs.Root.{rootOf};
+ghost use Rattle.ieee.specs.Single.{narrowOf};
+ghost use Rattle.maths.specs.Trig.{sinOf, cosOf, atanOf, atan2Of, asinOf, hypotOf, radiansOf, degreesOf};
+ghost use Rattle.measure.specs.Answer.{answerOf, numberOf, valueOr};
+ghost use Rattle.measure.specs.Measure.{measured, haversineOf, bearingOf};
+use measure::Measured;
+
+#[no_mangle]
+pub extern "C" fn zebumorn_is_nan(x: f64) -> bool
+    ensures { λ r. ⌜ r ≡ isNan x ⌝ }
+{
+    ieee::is_nan(x)
+}
+
+#[no_mangle]
+pub extern "C" fn zebumorn_abs(x: f64) -> f64
+    ensures { λ r. ⌜ r ≡ absOf x ⌝ }
+{
+    ieee::abs(x)
+}
+
+#[no_mangle]
+pub extern "C" fn zebumorn_max_of(x: f64, k: f64) -> f64
+    ensures { λ r. ⌜ r ≡ maxOf x k ⌝ }
+{
+    ieee::max_of(x, k)
+}
+
+#[no_mangle]
+pub extern "C" fn zebumorn_clamp01(x: f64) -> f64
+    ensures { λ r. ⌜ r ≡ clamp01Of x ⌝ }
+{
+    ieee::clamp01(x)
+}
+
+#[no_mangle]
+pub extern "C" fn zebumorn_least(best: f64, x: f64) -> f64
+    ensures { λ r. ⌜ r ≡ leastOf best x ⌝ }
+{
+    ieee::least(best, x)
+}
+
+#[no_mangle]
+pub extern "C" fn zebumorn_root(x: f64) -> f64
+    ensures { λ r. ⌜ r ≡ rootOf x ⌝ }
+{
+    ieee::root(x)
+}
+
+#[no_mangle]
+pub extern "C" fn zebumorn_narrow(x: f64) -> f32
+    ensures { λ r. ⌜ r ≡ narrowOf x ⌝ }
+{
+    ieee::narrow(x)
+}
+
+#[no_mangle]
+pub extern "C" fn zebumorn_sin(x: f64) -> f64
+    ensures { λ r. ⌜ r ≡ sinOf x ⌝ }
+{
+    maths::sin(x)
+}
+
+#[no_mangle]
+pub extern "C" fn zebumorn_cos(x: f64) -> f64
+    ensures { λ r. ⌜ r ≡ cosOf x ⌝ }
+{
+    maths::cos(x)
+}
+
+#[no_mangle]
+pub extern "C" fn zebumorn_atan(x: f64) -> f64
+    ensures { λ r. ⌜ r ≡ atanOf x ⌝ }
+{
+    maths::atan(x)
+}
+
+#[no_mangle]
+pub extern "C" fn zebumorn_asin(x: f64) -> f64
+    ensures { λ r. ⌜ r ≡ asinOf x ⌝ }
+{
+    maths::asin(x)
+}
+
+#[no_mangle]
+pub extern "C" fn zebumorn_radians(x: f64) -> f64
+    ensures { λ r. ⌜ r ≡ radiansOf x ⌝ }
+{
+    maths::radians(x)
+}
+
+#[no_mangle]
+pub extern "C" fn zebumorn_degrees(x: f64) -> f64
+    ensures { λ r. ⌜ r ≡ degreesOf x ⌝ }
+{
+    maths::degrees(x)
+}
+
+#[no_mangle]
+pub extern "C" fn zebumorn_atan2(y: f64, x: f64) -> f64
+    ensures { λ r. ⌜ r ≡ atan2Of y x ⌝ }
+{
+    maths::atan2(y, x)
+}
+
+#[no_mangle]
+pub extern "C" fn zebumorn_hypot(x: f64, y: f64) -> f64
+    ensures { λ r. ⌜ r ≡ hypotOf x y ⌝ }
+{
+    maths::hypot(x, y)
+}
+
+// 0 and the value in out, or the refusal's number with out as it was.
+fn told(m: Measured, out: &mut f64) -> u32
+    ensures { λ r. ⌜ (r ≡ numberOf (answerOf m)) × (now (out .exit) ≡ valueOr (now (out .entry)) (answerOf m)) ⌝ }
+{
+    match m {
+        Measured::Value(x) => {
+            *out = x;
+            0
+        }
+        Measured::OffGlobe => 3,
+    }
+}
+
+#[no_mangle]
+pub extern "C" fn zebumorn_haversine_m(
+    lat1: f64,
+    lon1: f64,
+    lat2: f64,
+    lon2: f64,
+    out: &mut f64,
+) -> u32
+    ensures { λ r. ⌜ r ≡ numberOf (measured haversineOf lat1 lon1 lat2 lon2) ⌝ }
+    ensures { λ _. ⌜ now (out .exit) ≡ valueOr (now (out .entry)) (measured haversineOf lat1 lon1 lat2 lon2) ⌝ }
+{
+    told(measure::haversine_m(lat1, lon1, lat2, lon2), out)
+}
+
+#[no_mangle]
+pub extern "C" fn zebumorn_bearing_deg(
+    lat1: f64,
+    lon1: f64,
+    lat2: f64,
+    lon2: f64,
+    out: &mut f64,
+) -> u32
+    ensures { λ r. ⌜ r ≡ numberOf (measured bearingOf lat1 lon1 lat2 lon2) ⌝ }
+    ensures { λ _. ⌜ now (out .exit) ≡ valueOr (now (out .entry)) (measured bearingOf lat1 lon1 lat2 lon2) ⌝ }
+{
+    told(measure::bearing_deg(lat1, lon1, lat2, lon2), out)
+}
