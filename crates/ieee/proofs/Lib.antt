@@ -1,4 +1,4 @@
--- The laws of floats, over the format: NaN, the order, rounding, sums, products, whole numbers and bounds; and the bits of a rounded value.
+-- The laws of floats, over the format: NaN, the order, rounding, sums, products, whole numbers, bounds and signs; the bits of a rounded value; and roots.
 pub mod Nan
 pub mod Signed
 pub mod Order
@@ -8,3 +8,5 @@ pub mod Products
 pub mod Whole
 pub mod Within
 pub mod Encode
+pub mod Signs
+pub mod Roots

@@ -4,7 +4,7 @@ use Prim.Native.Nat.{ℕ, _*_, _%_, _≤_, _<_}
 use mathlib.Core.Bool.{Bool, true, false, not, false≢true}
 use lib.Arith.{le→nltb}
 use lib.Dec.{T, ltb, lt→ltb}
-use lib.Ieee.{Float, nan, inf, fin, Format, ones, hid, top, ne, isNan, nanBits, ofBits}
+use lib.Ieee.{Float, nan, inf, fin, Format, ones, hid, top, le, ne, isNan, nanBits, ofBits}
 use lib.Ieee.Bits.{is-true, nanBits-is, nanBits-above}
 use lib.Ieee.Compare.{differs-from-itself, nan-differs}
 
@@ -17,6 +17,15 @@ itself (fin s m e) h = tt
 
 pub not-itself : (x : Float) → ne x x ≡ true → x ≡ nan
 not-itself x h = differs-from-itself x (subst T (sym h) tt)
+
+-- nor is a float that is at least another
+pub at-least : (x y : Float) → le x y ≡ true → T (not (isNan y))
+unfolding le isNan
+at-least nan nan h = absurd (false≢true h)
+at-least (inf s) nan h = absurd (false≢true h)
+at-least (fin s m e) nan h = absurd (false≢true h)
+at-least x (inf t) h = tt
+at-least x (fin t n d) h = tt
 
 is-nan : (x : Float) → isNan x ≡ true → x ≡ nan
 unfolding isNan

@@ -1,22 +1,22 @@
 -- Whole numbers as floats keep their order, and up to 2 ^ prec they are exact. Twice a value that fits is exact too, as long as it is finite:
--- it has the value's sign and twice its fraction. Assumes nothing.
-use mathlib.Core.Path.{_≡_, refl, sym, ap}
+-- it has the value's sign and twice its fraction. So it does not matter which factor of a product is doubled.
+use mathlib.Core.Path.{_≡_, refl, sym, ap, _∙_}
 use mathlib.Core.Logic.{inl, inr}
 use Prim.Native.Nat.{ℕ, zero, suc, _+_, _*_, _^_, _≤_, _<_, suc-le-suc}
-use native.Mathlib.Nat.{le-trans, le-of-eq, mul-le-mul-right, mul-one, pow-suc, one-mul, mul-lt-mul-of-pos-right, lt-of-mul-lt-mul-right}
+use native.Mathlib.Nat.{le-trans, le-of-eq, mul-le-mul-right, mul-one, pow-suc, one-mul, mul-lt-mul-of-pos-right, lt-of-mul-lt-mul-right, mul-pos, mul-mul-mul-comm}
 use native.Mathlib.Omega.{arith}
 use mathlib.Core.Bool.{Bool, true, false}
 use lib.IntN.{ℤ, pos, negsuc}
 use lib.Signed.{leZ, _≤ℤ_}
 use lib.Dec.{T, leb→le}
 use lib.Pow.{pow-pos, pow-add}
-use lib.Ieee.{Float, nan, inf, fin, Format, binary32, binary64, prec, emax, low, up, down, round, neg, mul, ofInt, fits, lt, le}
+use lib.Ieee.{Float, nan, inf, fin, Format, binary32, binary64, prec, emax, low, up, down, unlike, round, neg, mul, ofInt, fits, lt, le}
 use lib.Ieee.Fits.{down-pos}
 use lib.Ieee.Exact.{HasValue, round-exact}
 use lib.Ieee.Back.{round-whole}
 use lib.Ieee.Order.{round-mono}
-use lib.Ieee.Scale.{finite}
-use lib.Ieee.Positive.{num, den}
+use lib.Ieee.Scale.{finite, round-same}
+use lib.Ieee.Positive.{num, den, den-pos}
 use Rattle.ieee.proofs.Signed.{le-or-lt, neg-le, neg-round, round-sign, signs-le}
 use Rattle.ieee.proofs.Order.{nought, one, round-nonneg, lt-of-lt-le, le-finite}
 use Rattle.ieee.proofs.Own.{round-own, one-fits, in-units, fits-bounds}
@@ -127,3 +127,33 @@ pub double-exact : (f : Format) (x : Float) → T (fits f x) → T (finite x) �
 double-exact f nan F p h = absurd p
 double-exact f (inf s) F p h = absurd p
 double-exact f (fin s m e) F p h = rw (double-is f s m e) (double-round f s s m e F (rw (double-is f s m e) at h))
+
+-- ---- a product is settled by its factors' signs and fractions
+own-value : (x : Float) → T (finite x) → HasValue x (negative x) (num x) (den x)
+own-value nan p = absurd p
+own-value (inf s) p = absurd p
+own-value (fin s m e) p = (refl, refl)
+
+pub product-is : (f : Format) (x y : Float) (s t : Bool) (a b c d : ℕ) → 0 < c → 0 < d → HasValue x s a c → HasValue y t b d → mul f x y ≡ round f (unlike s t) (a * b) (c * d)
+unfolding mul
+product-is f nan y s t a b c d C D h k = absurd h
+product-is f (inf u) y s t a b c d C D h k = absurd h
+product-is f (fin u m e) nan s t a b c d C D h k = absurd k
+product-is f (fin u m e) (inf v) s t a b c d C D h k = absurd k
+product-is f (fin u m e) (fin v n i) s t a b c d C D h k =
+    rw (h .0, k .0)
+    (round-same f (unlike s t) (m * up e * (n * up i)) (down e * down i) (a * b) (c * d) (mul-pos (down-pos e) (down-pos i)) (mul-pos C D)
+    (cross (m * up e) (n * up i) (down e) (down i) (h .1) (k .1)))
+  where
+    cross : (p q g j : ℕ) → p * c ≡ a * g → q * d ≡ b * j → p * q * (c * d) ≡ a * b * (g * j)
+    cross p q g j h k = mul-mul-mul-comm p q c d ∙ ap (λ (z : ℕ). z * (q * d)) h ∙ ap (λ (z : ℕ). a * g * z) k ∙ mul-mul-mul-comm a g b j
+
+-- ---- it does not matter which factor is doubled, where both doubles are finite
+pub double-either : (f : Format) (x y : Float) → T (fits f x) → T (fits f y) → T (finite x) → T (finite y) → T (finite (mul f two x)) → T (finite (mul f two y)) → mul f x (mul f two y) ≡ mul f (mul f two x) y
+double-either f x y F G p q h k =
+    product-is f x (mul f two y) (negative x) (negative y) (num x) (2 * num y) (den x) (den y) (den-pos x) (den-pos y) (own-value x p) (double-exact f y G q k)
+    ∙ ap (λ (a : ℕ). round f (unlike (negative x) (negative y)) a (den x * den y)) (moved (num x) (num y))
+    ∙ sym (product-is f (mul f two x) y (negative x) (negative y) (2 * num x) (num y) (den x) (den y) (den-pos x) (den-pos y) (double-exact f x F p h) (own-value y q))
+  where
+    moved : (a b : ℕ) → a * (2 * b) ≡ 2 * a * b
+    moved a b = omega arith

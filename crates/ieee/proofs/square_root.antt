@@ -4,5 +4,6 @@ pub mod Rounded
 pub mod Marks
 pub mod Monotone
 pub mod Square
+pub mod Near
 pub mod Value
 pub mod Decode

@@ -2,6 +2,7 @@
 // the cast to f32, each equal to a definition of specs/. The laws on the order and on rounding, on
 // which every proof above leans, stand in proofs/.
 mod bits; // bits.rt: floats from and to their bit patterns
+mod cubics; // cubics.rt: polynomials for a first guess at a root
 mod number; // number.rt: is_nan, abs, max_of, clamp01, least
 mod single; // single.rt: narrow, an f64 as the nearest f32
 mod square_root; // square_root.rt: root

@@ -1,9 +1,13 @@
 // The square root, correctly rounded, in 64-bit integers: a float guess that nothing is proved of,
 // made exact. The Rust calls the machine's own.
 ghost use mathlib.Core.Path.{_≡_};
-ghost use Prim.Native.Nat.{_+_, _*_, _^_, _≤_, _<_};
+ghost use Prim.Native.Nat.{_+_, _*_, _/_, _^_, _≤_, _<_};
 ghost use lib.Dec.{leb};
-ghost use Rattle.ieee.specs.Root.{wholeRoot, builtOf, rootOf};
+ghost use Rattle.ieee.specs.Root.{wholeRoot, Gap, builtOf, rootOf};
+use crate::cubics::constant;
+use crate::cubics::cubed;
+use crate::cubics::linear;
+use crate::cubics::squared;
 
 // Whether g * g is at most m * 2^54, from the halves of g.
 fn square_le(g: u64, m: u64) -> bool
@@ -30,35 +34,63 @@ fn square_le(g: u64, m: u64) -> bool
     false
 }
 
-// Near the root of m * 2^54: the loops of `whole_root` make it exact.
-fn guess(m: u64) -> u64
-    requires { ⌜ m < 18014398509481984 ⌝ }
-    ensures { λ r. ⌜ r ≤ 18014398509481984 ⌝ }
+// Near the root of x = m / 2^53, or half of that where odd is 0: a cubic for the part in which x lies, then one
+// step of Newton's. Nothing is proved of it.
+fn guess(m: u64, odd: u64) -> f64
+    requires { ⌜ (m < 9007199254740992) × (odd < 2) ⌝ }
 {
-    let x = ((m / 2) as f64) * 1.1102230246251565e-16;
-    let y0 = 2.6 + x * (-3.2 + x * 1.6);
-    let h = 0.5 * x;
-    let y1 = y0 * (1.5 - h * y0 * y0);
-    let y2 = y1 * (1.5 - h * y1 * y1);
-    let y3 = y2 * (1.5 - h * y2 * y2);
-    let s0 = x * y3;
-    let s = (s0 + 0.5 * y3 * (x - s0 * s0)) * 18014398509481984.0;
-    if s > -1.0 {
-        if s < 18446744073709551616.0 {
-            let g = std::num::truncating_f64_to_u64(s);
-            if g < 18014398509481984 {
-                return g;
-            }
-        }
-    }
-    18014398509481983
+    let x = f64::from_bits((1020 + odd) * 4503599627370496 + m);
+    let i = odd * 16 + m / 281474976710656 % 16;
+    let s = constant(i) + linear(i) * x + x * x * (squared(i) + cubed(i) * x);
+    0.5 * s + 0.5 * x / s
 }
 
-fn whole_root(m: u64) -> u64
-    requires { ⌜ m < 18014398509481984 ⌝ }
+// How far m * 2^52 is above q * q, with 2^55 added, from the halves of q; 0 where that is no small number.
+fn gap(q: u64, m: u64) -> u64
+    requires { ⌜ q ≤ 9007199254740992 ⌝ }
+    ensures { λ r. ⌜ Gap q m r ⌝ }
+{
+    let a = q / 134217728;
+    let b = q % 134217728;
+    let bb = b * b;
+    let c = 2 * a * b + bb / 134217728;
+    let hi = a * a + c / 134217728;
+    let top = m / 4 + 1;
+    if top < hi {
+        return 0;
+    }
+    if 2 < top - hi {
+        return 0;
+    }
+    (top - hi) * 18014398509481984 + m % 4 * 4503599627370496 + 18014398509481984
+        - (c % 134217728 * 134217728 + bb % 134217728)
+}
+
+// The whole number nearest to the root of m * 2^52, from a guess q: mostly q itself, or one beside it.
+fn nearest_root(q: u64, m: u64) -> u64
+    requires { ⌜ (q ≤ 9007199254740992) × (m < 18014398509481984) ⌝ }
+    ensures { λ r. ⌜ r ≡ (wholeRoot (m * 2 ^ 54) + 1) / 2 ⌝ }
+{
+    let t = gap(q, m);
+    if 36028797018963968 < t + q {
+        if t <= 36028797018963968 + q {
+            return q;
+        }
+        if t <= 36028797018963968 + 3 * q {
+            return q + 1;
+        }
+    } else if 36028797018963970 < t + 3 * q {
+        return q - 1;
+    }
+    (whole_root(2 * q, m) + 1) / 2
+}
+
+// The root of m * 2^54, cut to a whole number, counted from g.
+fn whole_root(from: u64, m: u64) -> u64
+    requires { ⌜ (from ≤ 18014398509481984) × (m < 18014398509481984) ⌝ }
     ensures { λ r. ⌜ r ≡ wholeRoot (m * 2 ^ 54) ⌝ }
 {
-    let mut g = guess(m);
+    let mut g = from;
     while !square_le(g, m) {
         g -= 1;
     }
@@ -68,12 +100,31 @@ fn whole_root(m: u64) -> u64
     g
 }
 
+// The whole number nearest to the root of m * (1 + odd) * 2^52: the digits of the guess, corrected. They are a
+// count of 2^-53 where the guess lies in 1/2..1.
+fn corrected(m: u64, odd: u64) -> u64
+    requires { ⌜ (m < 9007199254740992) × (odd < 2) ⌝ }
+    ensures { λ r. ⌜ r ≡ (wholeRoot (m * (1 + odd) * 2 ^ 54) + 1) / 2 ⌝ }
+{
+    let s = guess(m, odd);
+    let w = m * (1 + odd);
+    if s >= 0.5 {
+        let b = f64::to_bits(s);
+        if 4598175219545276416 <= b {
+            if b <= 4607182418800017408 {
+                return nearest_root(b - 4598175219545276416, w);
+            }
+        }
+    }
+    (whole_root(9007199254740992, w) + 1) / 2
+}
+
+// The root of m * 2^e / 2^1126.
 fn built(m: u64, e: u64) -> f64
     requires { ⌜ (4503599627370496 ≤ m) × (m < 9007199254740992) × (e < 2100) ⌝ }
     ensures { λ r. ⌜ r ≡ builtOf m e ⌝ }
 {
-    let r = whole_root(m * (1 + e % 2));
-    f64::from_bits((e / 2 + 485) * 4503599627370496 + (r + 1) / 2)
+    f64::from_bits((e / 2 + 485) * 4503599627370496 + corrected(m, e % 2))
 }
 
 struct Norm {

@@ -12,47 +12,46 @@ use lib.Ieee.{Float, nan, inf, fin, binary64, up, down, units, nanBits, ofBits}
 use lib.Ieee.Fits.{down-pos}
 use lib.Ieee.Exact.{HasValue}
 use Rattle.ieee.specs.Root.{wholeRoot, rootOf, builtOf}
-use Rattle.ieee.proofs.square_root.Whole.{whole-root-is, whole-root-ge, whole-root-lt}
+use Rattle.ieee.proofs.square_root.Whole.{whole-root-is, whole-root-ge}
+use Rattle.ieee.proofs.square_root.Near.{root-small, scaled-small}
 use Rattle.ieee.proofs.square_root.Rounded.{from-whole}
 use Rattle.ieee.proofs.Nan.{up-to-infinity}
 use Rattle.ieee.proofs.Encode.{units-bits}
 
-module _ (m : ℕ) (lo : 4503599627370496 ≤ m) (hi : m < 9007199254740992) where
-  scaled : (b : ℕ) → b < 2 → (4503599627370496 ≤ m * (1 + b)) × (m * (1 + b) < 18014398509481984)
-  scaled zero h = omega arith
-  scaled (suc zero) h = omega arith
-  scaled (suc (suc b)) h = absurd (omega arith)
+no-less : (m b : ℕ) → m ≤ m * (1 + b)
+no-less m b = omega arith
 
+module _ (m : ℕ) (lo : 4503599627370496 ≤ m) (hi : m < 9007199254740992) where
   module _ (e : ℕ) where
     abbrev w : ℕ
     w = m * (1 + e % 2)
 
     pub w-lo : 4503599627370496 ≤ w
-    w-lo = scaled (e % 2) (omega arith) .0
+    w-lo = le-trans lo (no-less m (e % 2))
 
     pub w-hi : w < 18014398509481984
-    w-hi = scaled (e % 2) (omega arith) .1
+    w-hi = scaled-small m (e % 2) hi (omega arith)
 
     pub r-lo : 9007199254740992 ≤ wholeRoot (w * 2 ^ 54)
     r-lo = whole-root-ge (w * 2 ^ 54) 9007199254740992 (omega (arith, w-lo))
 
     pub r-hi : wholeRoot (w * 2 ^ 54) < 18014398509481984
-    r-hi = whole-root-lt (w * 2 ^ 54) 18014398509481984 (omega (arith, w-hi))
+    r-hi = root-small w w-hi
 
-    module _ (r : ℕ) (R : r ≡ wholeRoot (w * 2 ^ 54)) (E : e < 2100) where
-      pub no-nan : T (not (nanBits binary64 ((e / 2 + 485) * 4503599627370496 + (r + 1) / 2)))
-      no-nan =
-          let n = (e / 2 + 485) * 4503599627370496 + (r + 1) / 2 in
-          up-to-infinity binary64 n (le-trans (mod-le n 9223372036854775808) (omega (arith, r-hi)))
+    module _ (n : ℕ) (N : n ≡ (wholeRoot (w * 2 ^ 54) + 1) / 2) (E : e < 2100) where
+      pub built-small : (e / 2 + 485) * 4503599627370496 + n ≤ 9218868437227405312
+      built-small = omega (arith, r-hi)
 
-      pub is-built : ofBits binary64 ((e / 2 + 485) * 4503599627370496 + (r + 1) / 2) ≡ builtOf m e
+      pub no-nan : T (not (nanBits binary64 ((e / 2 + 485) * 4503599627370496 + n)))
+      no-nan = up-to-infinity binary64 _ (le-trans (mod-le _ 9223372036854775808) built-small)
+
+      pub is-built : ofBits binary64 ((e / 2 + 485) * 4503599627370496 + n) ≡ builtOf m e
       unfolding builtOf
       is-built =
-          let q = (r + 1) / 2 in
           let k = e / 2 + 485 in
-          ap (ofBits binary64) (front (k * 4503599627370496) q)
-          ∙ units-bits binary64 false q k (inr (omega (arith, r-lo))) (omega (arith, r-hi)) (omega arith)
-          ∙ ap (λ (z : ℕ). units binary64 false ((z + 1) / 2) k) R
+          ap (ofBits binary64) (front (k * 4503599627370496) n)
+          ∙ units-bits binary64 false n k (inr (omega (arith, r-lo))) (omega (arith, r-hi)) (omega arith)
+          ∙ ap (λ (z : ℕ). units binary64 false z k) N
         where
           front : (a b : ℕ) → a + b ≡ 0 + a + b
           front a b = omega arith

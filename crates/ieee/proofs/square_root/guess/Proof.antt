@@ -1,31 +1,55 @@
 use borrow.Author.Needs.{needs}
-use mathlib.Core.Path.{sym, subst}
 use native.Mathlib.Omega.{arith}
-use Prim.Native.Nat.{_/_, _^_}
-use lib.Dec.{T, le→leb}
-use lib.Ieee.{inFloat, ofBits, neg}
+use lib.Ieee.{binary64}
+use Rattle.ieee.proofs.Nan.{up-to-infinity}
 use Rattle.ieee.proofs.square_root.guess.Statement.{statement}
 use Rattle.ieee.proofs.square_root.guess.Tie as tie
 
-int-to-float-x : tie.Need-int-to-float-x
-unfolding inFloat
-int-to-float-x c = le→leb (c .before .args .m / 2) (2 ^ 53) (omega arith)
+add-x : tie.Need-add-x
+add-x c = search needs
 
-truncating-f64-to-u64-requires : tie.Need-truncating-f64-to-u64-requires
-unfolding ofBits neg
-truncating-f64-to-u64-requires c κs = (subst T (sym (c .before .if1 .taken)) tt, subst T (sym (c .if2 .taken)) tt)
+mul-x : tie.Need-mul-x
+mul-x c = search needs
+
+add-x-2 : tie.Need-add-x-2
+add-x-2 c = search needs
+
+float-from-bits-x : tie.Need-float-from-bits-x
+float-from-bits-x c = up-to-infinity binary64 _ (omega arith)
+
+mul-i : tie.Need-mul-i
+mul-i c = search needs
+
+add-i : tie.Need-add-i
+add-i c = search needs
+
+constant-requires : tie.Need-constant-requires
+constant-requires c κs = search needs
+
+linear-requires : tie.Need-linear-requires
+linear-requires c κs = search needs
+
+squared-requires : tie.Need-squared-requires
+squared-requires c κs = search needs
+
+cubed-requires : tie.Need-cubed-requires
+cubed-requires c κs = search needs
 
 returns : tie.Need-returns
 returns c = search needs
 
-returns-2 : tie.Need-returns-2
-returns-2 c = search needs
-
-returns-3 : tie.Need-returns-3
-returns-3 c = search needs
-
-returns-4 : tie.Need-returns-4
-returns-4 c = search needs
-
 pub guess-spec : {M : Type 1} → statement M
-guess-spec = tie.close (tie.spec int-to-float-x truncating-f64-to-u64-requires returns returns-2 returns-3 returns-4)
+guess-spec =
+    tie.close
+    (tie.spec
+    add-x
+    mul-x
+    add-x-2
+    float-from-bits-x
+    mul-i
+    add-i
+    constant-requires
+    linear-requires
+    squared-requires
+    cubed-requires
+    returns)

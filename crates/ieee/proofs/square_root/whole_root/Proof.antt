@@ -7,16 +7,16 @@ use Rattle.ieee.proofs.square_root.whole_root.Statement.{statement}
 use Rattle.ieee.proofs.square_root.whole_root.Tie as tie
 
 abbrev Inv-loop : tie.InvT-loop
-Inv-loop m g₀ g = g ≤ 18014398509481984
+Inv-loop from m g₀ g = g ≤ 18014398509481984
 
 abbrev μ-loop : tie.MeasureT-loop
-μ-loop m g₀ g = g
+μ-loop from m g₀ g = g
 
 abbrev Inv-loop2 : tie.InvT-loop2
-Inv-loop2 m g₀ g = g * g ≤ m * 2 ^ 54
+Inv-loop2 from m g₀ g = g * g ≤ m * 2 ^ 54
 
 abbrev μ-loop2 : tie.MeasureT-loop2
-μ-loop2 m g₀ g = 18014398509481984 - g
+μ-loop2 from m g₀ g = 18014398509481984 - g
 
 above : (g v : ℕ) → v < g * g → 0 < g
 above zero v h = absurd (omega arith)
@@ -26,14 +26,11 @@ under : (g m : ℕ) → m < 18014398509481984 → g * g ≤ m * 2 ^ 54 → g < 1
 under g m h k = square-lt-back g 18014398509481984 (omega arith)
 
 module _ (c : tie.Then1 Inv-loop μ-loop Inv-loop2 μ-loop2) where
-  over : c .before .before .before .before .args .m * 2 ^ 54 < c .before .before .loop .g * c .before .before .loop .g
+  over : c .before .before .before .args .m * 2 ^ 54 < c .before .before .loop .g * c .before .before .loop .g
   over = leb-false _ _ (sym (c .before .square-le .ensures) ∙ not-true _ (c .if1 .taken))
 
-guess-requires : tie.Need-guess-requires Inv-loop μ-loop Inv-loop2 μ-loop2
-guess-requires c κs = c .pre
-
 loop-holds : tie.Need-loop-holds Inv-loop μ-loop Inv-loop2 μ-loop2
-loop-holds c = c .guess .ensures
+loop-holds c = c .pre .0
 
 square-le-requires : tie.Need-square-le-requires Inv-loop μ-loop Inv-loop2 μ-loop2
 square-le-requires c κs = omega arith
@@ -51,14 +48,14 @@ loop2-holds : tie.Need-loop2-holds Inv-loop μ-loop Inv-loop2 μ-loop2
 loop2-holds c = leb-true _ _ (sym (c .before .square-le .ensures) ∙ not-false _ (c .if1 .left))
 
 add-square-le : tie.Need-add-square-le Inv-loop μ-loop Inv-loop2 μ-loop2
-add-square-le c = omega (arith, under (c .loop2 .g) (c .before .before .before .before .before .args .m) (c .before .before .before .before .before .pre) (c .loop2 .inv))
+add-square-le c = omega (arith, under (c .loop2 .g) (c .before .before .before .before .args .m) (c .before .before .before .before .pre .1) (c .loop2 .inv))
 
 square-le-requires-2 : tie.Need-square-le-requires-2 Inv-loop μ-loop Inv-loop2 μ-loop2
-square-le-requires-2 c κs = omega (arith, under (c .loop2 .g) (c .before .before .before .before .before .args .m) (c .before .before .before .before .before .pre) (c .loop2 .inv))
+square-le-requires-2 c κs = omega (arith, under (c .loop2 .g) (c .before .before .before .before .args .m) (c .before .before .before .before .pre .1) (c .loop2 .inv))
 
 module _ (c : tie.At-loop2 Inv-loop μ-loop Inv-loop2 μ-loop2) where
   g-lt : c .loop2 .g < 18014398509481984
-  g-lt = under (c .loop2 .g) (c .before .before .before .before .before .args .m) (c .before .before .before .before .before .pre) (c .loop2 .inv)
+  g-lt = under (c .loop2 .g) (c .before .before .before .before .args .m) (c .before .before .before .before .pre .1) (c .loop2 .inv)
 
 add-g : tie.Need-add-g Inv-loop μ-loop Inv-loop2 μ-loop2
 add-g c = omega (arith, g-lt (c .before .before))
@@ -75,4 +72,4 @@ returns c = sym (whole-root-unique _ _ (c .before .before .loop2 .inv, leb-false
 pub whole-root-spec : {M : Type 1} → statement M
 whole-root-spec =
     tie.close
-    (tie.spec Inv-loop μ-loop Inv-loop2 μ-loop2 guess-requires loop-holds square-le-requires sub-g loop-less loop-again loop2-holds add-square-le square-le-requires-2 add-g loop2-less loop2-again returns)
+    (tie.spec Inv-loop μ-loop Inv-loop2 μ-loop2 loop-holds square-le-requires sub-g loop-less loop-again loop2-holds add-square-le square-le-requires-2 add-g loop2-less loop2-again returns)
