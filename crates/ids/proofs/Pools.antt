@@ -1,4 +1,4 @@
--- Parts of pools, cut where the pool ends. Assumes nothing.
+-- Parts of pools, cut where the pool ends. Of any elements.
 use Prim.Native.Nat.{ℕ, _<_, _≤_, _+_, _-_}
 use native.Mathlib.Omega.{arith}
 use mathlib.Core.Path.{_≡_, sym, ap, _∙_}
@@ -8,10 +8,10 @@ use lib.Seq.{take-all, take-nil}
 use Rattle.ids.specs.declared.pool.IdColumn.{IdColumn}
 use Rattle.ids.specs.Pool.{cellOf, idOf}
 
-pub rest : (s : List ℕ) (a : ℕ) → take (length s - a) (drop a s) ≡ drop a s
+pub rest : {A : Type 0} (s : List A) (a : ℕ) → take (length s - a) (drop a s) ≡ drop a s
 rest s a = take-all (length s - a) (drop a s) (omega (arith, length-drop a s))
 
-module _ (s : List ℕ) (a n : ℕ) where
+module _ {A : Type 0} (s : List A) (a n : ℕ) where
   pub past : length s < a → [] ≡ take n (drop a s)
   past l = let h : length s ≤ a = omega arith in sym (ap (take n) (drop-of-length-le s h) ∙ take-nil n)
 
