@@ -1,0 +1,151 @@
+// The tables and their columns. A flag is a byte, zero or not; a row under a flag that is zero has no
+// value there. All columns of a table have as many rows as its first.
+use ids::IdColumn;
+use ids::Span;
+
+// Records in their own order.
+pub struct Stops {
+    pub own: IdColumn,
+    pub raw: IdColumn,
+    pub lat: Span,
+    pub lon: Span,
+    pub positioned: Span,
+}
+
+// Ids that ascend, each with the row of a record.
+pub struct IdRows {
+    pub id: IdColumn,
+    pub row: Span,
+}
+
+// The rows of a trip in the stop times are `count` from `first` on.
+pub struct Trips {
+    pub feed: IdColumn,
+    pub service: IdColumn,
+    pub shape: Span,
+    pub shaped: Span,
+    pub frequency: Span,
+    pub first: Span,
+    pub count: Span,
+}
+
+// Arrivals and departures are schedule seconds.
+pub struct StopTimes {
+    pub sequence: Span,
+    pub stop: Span,
+    pub arrival: Span,
+    pub departure: Span,
+    pub dist: Span,
+    pub measured: Span,
+}
+
+// The points of a shape are `count` from `first` on.
+pub struct Shapes {
+    pub id: IdColumn,
+    pub first: Span,
+    pub count: Span,
+}
+
+pub struct Points {
+    pub lat: Span,
+    pub lon: Span,
+}
+
+// An alias and the trip id that it stands for.
+pub struct Aliases {
+    pub id: IdColumn,
+    pub trip: IdColumn,
+}
+
+// By token, then trip.
+pub struct Lines {
+    pub token: IdColumn,
+    pub trip: Span,
+}
+
+// The feeds that have a calendar.
+pub struct Calendars {
+    pub feed: IdColumn,
+}
+
+// By feed, then service. Days are dates, yyyymmdd; weekdays the low seven bits, Monday lowest.
+pub struct Ranges {
+    pub feed: IdColumn,
+    pub service: IdColumn,
+    pub first: Span,
+    pub last: Span,
+    pub weekdays: Span,
+}
+
+// By feed, service, date, then added before removed.
+pub struct Exceptions {
+    pub feed: IdColumn,
+    pub service: IdColumn,
+    pub date: Span,
+    pub removed: Span,
+}
+
+// By stop_sequence.
+pub struct Updates {
+    pub sequence: Span,
+    pub stop: IdColumn,
+    pub named: Span,
+    pub arrival: Span,
+    pub arrives: Span,
+    pub departure: Span,
+    pub departs: Span,
+    pub arrdelay: Span,
+    pub arrdelayed: Span,
+    pub depdelay: Span,
+    pub depdelayed: Span,
+}
+
+// One row.
+pub struct Sailing {
+    pub feed: IdColumn,
+    pub key: IdColumn,
+    pub route: IdColumn,
+    pub routed: Span,
+    pub cancelled: Span,
+    pub now: Span,
+    pub offset: Span,
+}
+
+pub struct Tables {
+    pub stops: Stops,
+    pub stopkeys: IdRows,
+    pub trips: Trips,
+    pub tripkeys: IdRows,
+    pub times: StopTimes,
+    pub shapes: Shapes,
+    pub points: Points,
+    pub aliases: Aliases,
+    pub lines: Lines,
+    pub calendars: Calendars,
+    pub ranges: Ranges,
+    pub exceptions: Exceptions,
+    pub updates: Updates,
+    pub sailing: Sailing,
+}
+
+// What matching is asked of, in one row: the trip key before its last `@`, the route, the first departure.
+pub struct Journey {
+    pub key: IdColumn,
+    pub route: IdColumn,
+    pub routed: Span,
+    pub departure: Span,
+    pub departs: Span,
+    pub offset: Span,
+}
+
+// What a calendar is asked of, in one row.
+pub struct Service {
+    pub feed: IdColumn,
+    pub service: IdColumn,
+    pub date: Span,
+}
+
+// The trip that a leg is asked of, in one row.
+pub struct LegAsked {
+    pub trip: IdColumn,
+}
