@@ -1,6 +1,6 @@
 -- The least refusal over a list of causes: one cause after another, and one list after another.
 use mathlib.Core.Path.{_≡_, refl, sym, ap, _∙_}
-use Prim.Native.Nat.{ℕ, suc, _+_, _≤_, _<_}
+use Prim.Native.Nat.{ℕ, zero, suc, _+_, _≤_, _<_}
 use native.Mathlib.Numerals.{add-one}
 use mathlib.Core.List.{List, [], _∷_, _++_}
 use lib.ListN.{length, getD, drop, drop-of-length-le}
@@ -8,6 +8,7 @@ use lib.Seq.{drop-cons}
 use Rattle.tables.specs.Pools.{Pools}
 use Rattle.tables.specs.Refuse.{failsOf, withCause, leastOf}
 use Rattle.tables.specs.declared.cause.Cause.{Cause}
+use Rattle.tables.specs.declared.cause.Test.the-variants.{Pass}
 
 module _ (p : Pools) where
   joined : (best : ℕ) (xs ys : List Cause) → leastOf p best (xs ++ ys) ≡ leastOf p (leastOf p best xs) ys
@@ -27,3 +28,18 @@ module _ (p : Pools) where
     pub is-through : length cs ≤ i → best ≡ leastOf p so-far cs
     unfolding leastOf
     is-through l = sym (e ∙ ap (leastOf p best) (drop-of-length-le cs l))
+
+-- causes that are never there, which fill a list up
+abbrev pub passes : ℕ → List Cause
+passes zero = []
+passes (suc k) = (0, Pass) ∷ passes k
+
+module _ (p : Pools) where
+  filled : (best : ℕ) (cs : List Cause) (k : ℕ) → leastOf p best (cs ++ passes k) ≡ leastOf p best cs
+  unfolding leastOf failsOf
+  filled best [] zero = refl
+  filled best [] (suc k) = filled best [] k
+  filled best (c ∷ cs) k = filled (withCause p best c) cs k
+
+  pub unfilled : (best r : ℕ) (cs : List Cause) (k : ℕ) → r ≡ leastOf p best (cs ++ passes k) → r ≡ leastOf p best cs
+  unfilled best r cs k e = e ∙ filled best cs k

@@ -1,6 +1,6 @@
 -- What makes a refusal, and the first that applies: the least number whose cause is there.
 use Prim.Native.Nat.{ℕ, _+_, _-_, min}
-use mathlib.Core.Bool.{Bool, true, false, not, cond, _&&_, _||_}
+use mathlib.Core.Bool.{Bool, true, false, not, cond, _||_}
 use mathlib.Core.List.{List, [], _∷_}
 use lib.Dec.{ltb, eqb}
 use lib.IntN.{pos, negsuc}

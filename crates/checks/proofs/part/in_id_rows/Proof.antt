@@ -1,0 +1,17 @@
+use Rattle.tables.proofs.Folds.{then, unfilled}
+use Rattle.checks.specs.Parts.{idRowsCauses}
+use Rattle.checks.proofs.part.in_id_rows.Statement.{statement}
+use Rattle.checks.proofs.part.in_id_rows.Tie as tie
+
+id-column-requires : tie.Need-id-column-requires
+id-column-requires c κs = tt
+
+least-requires : tie.Need-least-requires
+least-requires c κs = tt
+
+returns : tie.Need-returns
+unfolding idRowsCauses
+returns c = then _ _ _ _ _ _ (c .before .id-column .ensures) ((unfilled _ _ _ _ 4 (c .least .ensures)))
+
+pub in-id-rows-spec : {M : Type 1} → statement M
+in-id-rows-spec = tie.close (tie.spec id-column-requires least-requires returns)
