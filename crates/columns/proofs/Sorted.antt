@@ -30,7 +30,7 @@ first-part Less r e = inl refl
 first-part Same r e = inr (refl, e)
 first-part More r e = clash (cc)
 
-parts-trans : (a b c : List (List ℕ)) → cmpParts a b ≡ Less → cmpParts b c ≡ Less → cmpParts a c ≡ Less
+pub parts-trans : (a b c : List (List ℕ)) → cmpParts a b ≡ Less → cmpParts b c ≡ Less → cmpParts a c ≡ Less
 unfolding cmpParts
 parts-trans [] [] c p q = clash (cc)
 parts-trans [] (y ∷ b) [] p q = clash (cc)

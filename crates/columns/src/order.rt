@@ -30,7 +30,7 @@ pub enum Key {
 }
 
 // How x stands to y.
-fn numbers(x: u32, y: u32) -> Order
+pub fn numbers(x: u32, y: u32) -> Order
     ensures { λ r. ⌜ r ≡ cmp (x ∷ []) (y ∷ []) ⌝ }
 {
     if x < y {
@@ -43,7 +43,7 @@ fn numbers(x: u32, y: u32) -> Order
 }
 
 // Row k of a column of flags, as zero or one.
-fn bit(bytes: &[u8], span: Span, k: usize) -> u32
+pub fn bit(bytes: &[u8], span: Span, k: usize) -> u32
     ensures { λ r. ⌜ r ≡ bitOf (now (bytes .entry)) span k ⌝ }
 {
     if bytes.len() <= k {

@@ -3,7 +3,7 @@ use Prim.Native.Nat.{ℕ, suc, _+_, _-_, _<_, _≤_}
 use mathlib.Core.Path.{_≡_, refl}
 use mathlib.Core.Bool.{Bool, true, false}
 use native.Mathlib.Omega.{arith}
-use borrow.Author.Tests.{ltb-true, ltb-false, lt-ltb}
+use borrow.Author.Tests.{le-ltb, lt-ltb, ltb-false, ltb-true}
 use lib.Dec.{ltb}
 use lib.IntN.{subℕ}
 use lib.Signed.{ltZ}
@@ -54,7 +54,16 @@ pub ascends : (a b : ℕ) → isDate a ≡ true → isDate b ≡ true → a < b 
 unfolding dayOf
 ascends a b p q h = days-ascend 719163 (ordinal a) (ordinal b) (ordinal-ascends a b (parts a p) (parts b q) h)
 
--- so comparing dates by their numbers is comparing days
+-- so comparing dates by their numbers is comparing their ordinals
+module _ (a b : ℕ) (p : isDate a ≡ true) (q : isDate b ≡ true) where
+  pub ordinal-order : ltb (ordinal a) (ordinal b) ≡ ltb a b
+  ordinal-order = go (ltb a b) refl (ltb b a) refl where
+    go : (s : Bool) → ltb a b ≡ s → (t : Bool) → ltb b a ≡ t → ltb (ordinal a) (ordinal b) ≡ s
+    go true e t f = lt-ltb (ordinal a) (ordinal b) (ordinal-ascends a b (parts a p) (parts b q) (ltb-true a b e))
+    go false e true f = let h : ordinal b < ordinal a = ordinal-ascends b a (parts b q) (parts a p) (ltb-true b a f) in le-ltb (ordinal a) (ordinal b) (omega arith)
+    go false e false f = let same : a ≡ b = omega (arith, ltb-false a b e, ltb-false b a f) in rw same (le-ltb (ordinal b) (ordinal b) (omega arith))
+
+-- and their days
 module _ (a b : ℕ) (p : isDate a ≡ true) (q : isDate b ≡ true) where
   pub same-order : ltZ (dayOf a) (dayOf b) ≡ ltb a b
   same-order = go (ltb a b) refl (ltb b a) refl where

@@ -1,7 +1,7 @@
 // Eight digits, yyyymmdd, as a day number: day 0 is 19700101, and days before it are negative.
 // There is no way back from a day to its date.
 ghost use mathlib.Core.Path.{_≡_};
-ghost use Rattle.days.specs.Days.{isDate, dayOf, weekdayOf};
+ghost use Rattle.days.specs.Days.{isDate, ordinal, dayOf, weekdayOf};
 ghost use Rattle.days.specs.Read.{readDateOf};
 use crate::calendar::days_before_month;
 use crate::calendar::days_before_year;
@@ -51,16 +51,22 @@ pub fn is_date(n: u32) -> bool
     day <= month_days(month, is_leap(year))
 }
 
-// The day number of a date. Of digits that are no date it says nothing useful: see is_date.
-pub fn day_of(n: u32) -> i64
-    ensures { λ r. ⌜ r ≡ dayOf n ⌝ }
+// The place of a date in the count in which 00010101 is 1. Of digits that are no date it says nothing useful: see is_date.
+pub fn ordinal_of(n: u32) -> u64
+    ensures { λ r. ⌜ r ≡ ordinal n ⌝ }
 {
     let year = n / 10000;
     let month = n / 100 % 100;
     let day = n % 100;
     let past = days_before_month(month, is_leap(year)) as u64;
-    let ordinal = days_before_year(year) + past + day as u64;
-    ordinal as i64 - 719163
+    days_before_year(year) + past + day as u64
+}
+
+// The day number of a date, likewise.
+pub fn day_of(n: u32) -> i64
+    ensures { λ r. ⌜ r ≡ dayOf n ⌝ }
+{
+    ordinal_of(n) as i64 - 719163
 }
 
 // The weekday of any day, Monday 0. A remainder has its dividend's sign, so 7 is added; and 3, since

@@ -17,6 +17,7 @@ pub use calendar::month_days;
 pub use date::ReadDate;
 pub use date::day_of;
 pub use date::is_date;
+pub use date::ordinal_of;
 pub use date::read_date;
 pub use date::weekday;
 pub use service::ServiceDay;

@@ -1,13 +1,7 @@
 -- What the Rust's `f64::abs`, `max`, `clamp` and `min` give. Definitions only.
 use mathlib.Core.Bool.{false, cond}
-use lib.IntN.{pos}
 use lib.Ieee.{Float, nan, inf, fin, lt}
-
-abbrev pub nought : Float
-nought = fin false 0 (pos 0)
-
-abbrev pub one : Float
-one = fin false 1 (pos 0)
+pub use Rattle.floats.specs.Number.{nought, one}
 
 -- the same with its sign clear
 unfoldable pub absOf : Float → Float

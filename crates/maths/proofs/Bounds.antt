@@ -12,15 +12,15 @@ use lib.Dec.{T, lit≤}
 use lib.Ieee.{Float, nan, inf, fin, binary64, up, down, ofInt, ofBits, neg, add, sub, mul, div, lt, eq, ne, le}
 use lib.Ieee.Fits.{up-pos}
 use Rattle.ieee.specs.Number.{absOf}
-use Rattle.ieee.specs.Root.{rootOf}
-use Rattle.ieee.proofs.Signed.{le→below}
-use Rattle.ieee.proofs.Order.{nought, one, number, trans-le, not-lt-le, lt-le, le-number-right, nonneg, NonNeg, clear, minus, endless, nonneg-le, Above, some, unbounded, above}
-use Rattle.ieee.proofs.Own.{one-fits}
-use Rattle.ieee.proofs.Sums.{add-up, add-nonneg, add-number-left}
-use Rattle.ieee.proofs.Products.{one-pos, above-one, square-nonneg, div-nonneg, div-number, div-unit-nonneg, div-unit-le}
-use Rattle.ieee.proofs.Whole.{int-one, int-ge-one}
-use Rattle.ieee.proofs.Within.{Within, within-finite, within-number, within-neg, within-weaken, within-add, within-sub, within-mul, within-mul-unit, within-div, int-within, within→le, le→within}
-use Rattle.ieee.proofs.Roots.{root-number, root-nonneg}
+use Rattle.roots.specs.Root.{rootOf}
+use Rattle.floats.proofs.Signed.{le→below}
+use Rattle.floats.proofs.Order.{nought, one, number, trans-le, not-lt-le, lt-le, le-number-right, nonneg, NonNeg, clear, minus, endless, nonneg-le, Above, some, unbounded, above}
+use Rattle.floats.proofs.Own.{one-fits}
+use Rattle.floats.proofs.Sums.{add-up, add-nonneg, add-number-left}
+use Rattle.floats.proofs.Products.{one-pos, above-one, square-nonneg, div-nonneg, div-number, div-unit-nonneg, div-unit-le}
+use Rattle.floats.proofs.Whole.{int-one, int-ge-one}
+use Rattle.floats.proofs.Within.{Within, within-finite, within-number, within-neg, within-weaken, within-add, within-sub, within-mul, within-mul-unit, within-div, int-within, within→le, le→within}
+use Rattle.roots.proofs.Roots.{root-number, root-nonneg}
 use Rattle.maths.specs.Series.{whole, onFrom, horner, signOf, atanC}
 use Rattle.maths.specs.Trig.{pi, halfPi, halveOf, fourTimes, atanOf, angleOf, turnedOf, atan2Of, asinOf}
 

@@ -4,9 +4,9 @@ use lib.Dec.{T}
 use lib.Ieee.{Float, binary64, sub, mul, div, lt, eq, ne, fits}
 use lib.Ieee.Fits.{cond-fits, nan-fits, neg-fits, sub-fits, mul-fits}
 use Rattle.ieee.specs.Number.{absOf}
-use Rattle.ieee.specs.Root.{rootOf}
-use Rattle.ieee.proofs.Order.{nought, one}
-use Rattle.ieee.proofs.Own.{nought-fits}
+use Rattle.roots.specs.Root.{rootOf}
+use Rattle.floats.proofs.Order.{nought, one}
+use Rattle.floats.proofs.Own.{nought-fits}
 use Rattle.maths.specs.Trig.{pi, halfPi, fourTimes, atanOf, angleOf, turnedOf, atan2Of, asinOf}
 
 atan-fits : (t : Float) → T (fits binary64 (atanOf t))

@@ -1,7 +1,7 @@
 -- The stand-in for the sine is odd, to the bit and for all floats: what it multiplies depends on the square alone. So is the turn to radians.
 use mathlib.Core.Path.{_≡_}
 use lib.Ieee.{Float, binary64, neg}
-use Rattle.ieee.proofs.Signs.{neg-mul, square-neg}
+use Rattle.floats.proofs.Signs.{neg-mul, square-neg}
 use Rattle.maths.specs.Trig.{radiansOf, sinOf}
 
 pub radians-odd : (x : Float) → radiansOf (neg x) ≡ neg (radiansOf x)

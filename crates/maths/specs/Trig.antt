@@ -2,7 +2,7 @@
 use mathlib.Core.Bool.{cond, _&&_, _||_}
 use lib.Ieee.{Float, nan, binary64, ofInt, neg, add, sub, mul, div, lt, eq, ne, ofBits}
 use Rattle.ieee.specs.Number.{absOf, nought, one}
-use Rattle.ieee.specs.Root.{rootOf}
+use Rattle.roots.specs.Root.{rootOf}
 use Rattle.maths.specs.Series.{whole, onFrom, horner, sinC, cosC, atanC}
 
 -- the f64 nearest to pi, and half of it

@@ -6,7 +6,7 @@ ghost use Rattle.maths.specs.Trig.{halveOf, atanOf, angleOf, turnedOf, a
 fn halve(t: f64) -> f64
     ensures { λ v. ⌜ v ≡ halveOf t ⌝ }
 {
-    t / (1.0 + ieee::root(1.0 + t * t))
+    t / (1.0 + roots::root(1.0 + t * t))
 }
 
 // The angle whose tangent is t, for a t in 0..1.
@@ -79,5 +79,5 @@ pub fn atan2(y: f64, x: f64) -> f64
 pub fn asin(s: f64) -> f64
     ensures { λ v. ⌜ v ≡ asinOf s ⌝ }
 {
-    atan2(s, ieee::root(1.0 - s * s))
+    atan2(s, roots::root(1.0 - s * s))
 }

@@ -5,5 +5,5 @@ ghost use Rattle.maths.specs.Trig.{hypotOf};
 pub fn hypot(x: f64, y: f64) -> f64
     ensures { λ v. ⌜ v ≡ hypotOf x y ⌝ }
 {
-    ieee::root(x * x + y * y)
+    roots::root(x * x + y * y)
 }

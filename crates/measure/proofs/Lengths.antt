@@ -6,10 +6,10 @@ use Prim.Native.Nat.{ℕ, _*_, _^_, _≤_}
 use mathlib.Core.Bool.{Bool}
 use lib.Dec.{T, lit≤}
 use lib.Ieee.{Float, nan, inf, binary64, mul}
-use Rattle.ieee.specs.Root.{rootOf}
-use Rattle.ieee.proofs.Order.{number}
-use Rattle.ieee.proofs.Products.{mul-comm}
-use Rattle.ieee.proofs.Within.{Within, within-finite, within-mul, int-within}
+use Rattle.roots.specs.Root.{rootOf}
+use Rattle.floats.proofs.Order.{number}
+use Rattle.floats.proofs.Products.{mul-comm}
+use Rattle.floats.proofs.Within.{Within, within-finite, within-mul, int-within}
 use Rattle.maths.specs.Series.{whole}
 use Rattle.maths.proofs.Bounds.{Bounded, bounded-weaken, asin-bounded}
 use Rattle.measure.specs.Measure.{radius, haversinOf, haversineOf}

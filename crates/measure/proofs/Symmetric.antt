@@ -2,8 +2,8 @@
 use mathlib.Core.Path.{_≡_}
 use mathlib.Core.Logic.{inl, inr}
 use lib.Ieee.{Float, binary64, sub, div}
-use Rattle.ieee.proofs.Products.{mul-comm}
-use Rattle.ieee.proofs.Signs.{Turned, sub-turned, neg-div, square-neg}
+use Rattle.floats.proofs.Products.{mul-comm}
+use Rattle.floats.proofs.Signs.{Turned, sub-turned, neg-div, square-neg}
 use Rattle.maths.specs.Series.{whole}
 use Rattle.maths.specs.Trig.{sinOf, cosOf, radiansOf}
 use Rattle.maths.proofs.Odd.{radians-odd, sin-odd}

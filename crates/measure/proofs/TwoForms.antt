@@ -5,9 +5,9 @@ use mathlib.Core.Logic.{inl, inr}
 use lib.Dec.{T, lit≤}
 use lib.Ieee.{Float, binary64, ofInt, mul, fits}
 use lib.Ieee.Fits.{ofInt-fits}
-use Rattle.ieee.specs.Root.{rootOf}
-use Rattle.ieee.proofs.Whole.{two, double-either}
-use Rattle.ieee.proofs.Within.{within-finite, within-mul, int-within}
+use Rattle.roots.specs.Root.{rootOf}
+use Rattle.floats.proofs.Whole.{two, double-either}
+use Rattle.floats.proofs.Within.{within-finite, within-mul, int-within}
 use Rattle.maths.specs.Series.{whole}
 use Rattle.maths.specs.Trig.{asinOf}
 use Rattle.maths.proofs.Bounds.{Bounded, asin-bounded}

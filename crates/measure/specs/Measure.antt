@@ -1,7 +1,7 @@
 -- Lengths and bearings on the globe, in the Rust's order of operations. Positions are in degrees. Definitions only.
 use mathlib.Core.Bool.{cond}
 use lib.Ieee.{Float, binary64, add, sub, mul, div, rem}
-use Rattle.ieee.specs.Root.{rootOf}
+use Rattle.roots.specs.Root.{rootOf}
 use Rattle.maths.specs.Series.{whole}
 use Rattle.maths.specs.Trig.{sinOf, cosOf, asinOf, atan2Of, radiansOf, degreesOf}
 use Rattle.measure.specs.Answer.{Answer, refused, given}

@@ -15,7 +15,7 @@ pub fn haversine(lat1: f64, lon1: f64, lat2: f64, lon2: f64) -> f64
     let c1 = cos(radians(lat1));
     let c2 = cos(radians(lat2));
     let a = s1 * s1 + c1 * c2 * (s2 * s2);
-    2.0 * Globe::RADIUS * maths::asin(ieee::root(a))
+    2.0 * Globe::RADIUS * maths::asin(roots::root(a))
 }
 
 // The bearing at the first position of the way to the second, in degrees from north, clockwise.

@@ -3,7 +3,7 @@
 ghost use mathlib.Core.Path.{_≡_};
 ghost use lib.Ieee.{isNan};
 ghost use Rattle.ieee.specs.Number.{absOf, maxOf, clamp01Of, leastOf};
-ghost use Rattle.ieee.specs.Root.{rootOf};
+ghost use Rattle.roots.specs.Root.{rootOf};
 ghost use Rattle.ieee.specs.Single.{narrowOf};
 ghost use Rattle.maths.specs.Trig.{sinOf, cosOf, atanOf, atan2Of, asinOf, hypotOf, radiansOf, degreesOf};
 ghost use Rattle.measure.specs.Answer.{answerOf, numberOf, valueOr};
@@ -49,7 +49,7 @@ pub extern "C" fn zebumorn_least(best: f64, x: f64) -> f64
 pub extern "C" fn zebumorn_root(x: f64) -> f64
     ensures { λ r. ⌜ r ≡ rootOf x ⌝ }
 {
-    ieee::root(x)
+    roots::root(x)
 }
 
 #[no_mangle]

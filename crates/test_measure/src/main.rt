@@ -59,7 +59,7 @@ fn answer(line: &[u8]) {
 // The functions of one float.
 fn of_one(line: &[u8]) {
     if is(line, b"root ") {
-        double(ieee::root(arg(line, 5)));
+        double(roots::root(arg(line, 5)));
     } else if is(line, b"sin ") {
         double(maths::sin(arg(line, 4)));
     } else if is(line, b"cos ") {

@@ -16,8 +16,8 @@ use lib.Ieee.Exact.{HasValue, odd-sign}
 use lib.Ieee.Nearest.{closest, closest-same, nearest-ge}
 use lib.Ieee.Scale.{round-same}
 use Rattle.ieee.specs.Single.{narrowOf, Narrowed}
-use Rattle.ieee.proofs.Encode.{Full, units-bits, units-inf, inf-bits}
-use Rattle.ieee.proofs.square_root.Rounded.{cmp-lt}
+use Rattle.floats.proofs.Compare.{cmp-lt}
+use Rattle.floats.proofs.Encode.{Full, units-bits, units-inf, inf-bits}
 
 size-gt : (n j : ℕ) → 2 ^ j ≤ n → j < size n
 size-gt n j h = lt-of-not-le (λ (g : size n ≤ j). not-le-of-lt (lt-of-lt-of-le (size-lt n) (pow-mono g)) h)

@@ -1,72 +1,35 @@
--- `days::date::day_of` meets its contract: what it adds up is the ordinal, which is small.
+-- `days::date::day_of` meets its contract: the ordinal is small, so that it is the same signed.
 use borrow.Author.Needs.{needs}
 use Rattle.days.proofs.date.day_of.Statement.{statement}
 use Rattle.days.proofs.date.day_of.Tie as tie
-use Prim.Native.Nat.{ℕ, _+_, _%_, _<_, _^_}
+use Prim.Native.Nat.{_<_, _^_}
 use mathlib.Core.Path.{_≡_}
 use native.Mathlib.Omega.{arith}
 use lib.IntN.{pos}
 use mir.Syntax.{w64}
 use mir.Val.{toZ}
 use mir.Facts.{toZ-ofZ, toZ-pos}
-use Rattle.days.specs.Days.{ordinal, dayOf}
+use Rattle.days.specs.Days.{dayOf}
 use Rattle.days.proofs.Ordinals.{ordinal-small, day-fits}
 
-abbrev sum : tie.After-days-before-year → ℕ
-sum c = c .days-before-year .result + c .before .days-before-month .result + c .before .before .before .args .n % 100
+small : (c : tie.After-ordinal-of) → c .ordinal-of .result < 2 ^ 62
+small c = rw (c .ordinal-of .ensures) (ordinal-small (c .before .args .n) (search needs))
 
-sum-is : (c : tie.After-days-before-year) → sum c ≡ ordinal (c .before .before .before .args .n)
-unfolding ordinal
-sum-is c = rw (c .days-before-year .ensures, c .before .days-before-month .ensures, c .before .before .is-leap .ensures)
-
-small : (c : tie.After-days-before-year) → sum c < 2 ^ 62
-small c = rw (sum-is c) (ordinal-small (c .before .before .before .args .n) (search needs))
-
-read : (c : tie.After-days-before-year) → toZ w64 (sum c) ≡ pos (sum c)
+read : (c : tie.After-ordinal-of) → toZ w64 (c .ordinal-of .result) ≡ pos (c .ordinal-of .result)
 read c = toZ-pos w64 (omega (arith, small c))
 
-is-leap-requires : tie.Need-is-leap-requires
-is-leap-requires c κs = search needs
-
-days-before-month-requires : tie.Need-days-before-month-requires
-days-before-month-requires c κs = search needs
-
-cast-past : tie.Need-cast-past
-cast-past c = search needs
-
-days-before-year-requires : tie.Need-days-before-year-requires
-days-before-year-requires c κs = search needs
-
-add-ordinal : tie.Need-add-ordinal
-add-ordinal c = record { fits = omega (arith, small c) }
-
-cast-ordinal : tie.Need-cast-ordinal
-cast-ordinal c = search needs
-
-add-ordinal-2 : tie.Need-add-ordinal-2
-add-ordinal-2 c = record { fits = omega (arith, small c) }
+ordinal-of-requires : tie.Need-ordinal-of-requires
+ordinal-of-requires c κs = search needs
 
 cast-result : tie.Need-cast-result
 cast-result c = record { sfits = omega (arith, small c) }
 
 sub-result : tie.Need-sub-result
-sub-result c = rw (read c) (day-fits (sum c) (small c))
+sub-result c = rw (read c) (day-fits (c .ordinal-of .result) (small c))
 
 returns : tie.Need-returns
 unfolding dayOf
-returns c = rw (read c, toZ-ofZ (day-fits (sum c) (small c)), sum-is c)
+returns c = rw (read c, toZ-ofZ (day-fits (c .ordinal-of .result) (small c)), c .ordinal-of .ensures)
 
 pub day-of-spec : {M : Type 1} → statement M
-day-of-spec =
-    tie.close
-    (tie.spec
-    is-leap-requires
-    days-before-month-requires
-    cast-past
-    days-before-year-requires
-    add-ordinal
-    cast-ordinal
-    add-ordinal-2
-    cast-result
-    sub-result
-    returns)
+day-of-spec = tie.close (tie.spec ordinal-of-requires cast-result sub-result returns)

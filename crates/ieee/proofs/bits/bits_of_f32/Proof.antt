@@ -1,7 +1,7 @@
 use borrow.Author.Needs.{needs}
 use mathlib.Core.Path.{sym, ap}
 use lib.Ieee.{binary32, toBits}
-use Rattle.ieee.proofs.Nan.{itself, not-itself}
+use Rattle.floats.proofs.Nan.{itself, not-itself}
 use Rattle.ieee.proofs.bits.bits_of_f32.Statement.{statement}
 use Rattle.ieee.proofs.bits.bits_of_f32.Tie as tie
 

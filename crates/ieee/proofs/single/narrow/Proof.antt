@@ -6,7 +6,7 @@ use mathlib.Core.Bool.{not}
 use lib.Dec.{T}
 use lib.Ieee.{Float, nan, binary32, binary64, fits, isNan, div, ofBits, toBits}
 use Rattle.ieee.specs.Single.{narrowOf}
-use Rattle.ieee.proofs.Nan.{itself, not-itself, up-to-infinity}
+use Rattle.floats.proofs.Nan.{itself, not-itself, up-to-infinity}
 use Rattle.ieee.proofs.single.Shorter.{no-more, b-lt, clear, signed}
 use Rattle.ieee.proofs.single.narrow.Statement.{statement}
 use Rattle.ieee.proofs.single.narrow.Tie as tie

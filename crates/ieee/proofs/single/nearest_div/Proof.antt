@@ -4,7 +4,7 @@ use native.Mathlib.Nat.{mod-le, div-le-self}
 use native.Mathlib.Numerals.{add-one}
 use native.Mathlib.Omega.{arith}
 use lib.Ieee.{nearest}
-use Rattle.ieee.proofs.square_root.Rounded.{cmp-lt, cmp-gt, cmp-eq}
+use Rattle.floats.proofs.Compare.{cmp-lt, cmp-gt, cmp-eq}
 use Rattle.ieee.proofs.single.nearest_div.Statement.{statement}
 use Rattle.ieee.proofs.single.nearest_div.Tie as tie
 

@@ -1,2 +1,0 @@
--- The order of square roots, for other crates: the module of the square root is private to this one.
-pub use Rattle.ieee.proofs.square_root.Monotone.{root-mono, root-number, root-of-number, root-nonneg, root-one}

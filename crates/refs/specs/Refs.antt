@@ -1,0 +1,99 @@
+-- Journey refs taken apart. Each part is itself a text of the ref; an empty text stands for none.
+use Prim.Native.Nat.{ℕ, _-_}
+use mathlib.Core.Bool.{Bool, _&&_, _||_, cond}
+use mathlib.Core.List.{List, [], _∷_}
+use lib.Dec.{leb, eqb}
+use lib.ListN.{length, getD, take, drop}
+use Rattle.ids.specs.declared.byte.Kind.the-variants.{Byte}
+use Rattle.ids.specs.declared.lookup.Found.{Found}
+use Rattle.ids.specs.declared.lookup.Found.the-variants.{At, Nothing}
+use Rattle.ids.specs.Bytes.{isOf}
+use Rattle.ids.specs.Texts.{prefixOf, suffixOf, equalIgnoringCase, firstByte, lastByte, firstPlace, runOf, trimmedOf, trimmedText}
+use Rattle.refs.specs.Words.{colons, loc, locWord, lowFeed, highFeed, serviceJourney, vehicleJourney}
+
+-- the text before the place, or the other text
+abbrev pub upTo : Found → List ℕ → List ℕ → List ℕ
+upTo (At k) s t = take k s
+upTo Nothing s t = t
+
+-- the text from n bytes after the place on, or the other text
+abbrev pub past : ℕ → Found → List ℕ → List ℕ → List ℕ
+past n (At k) s t = drop n (drop k s)
+past n Nothing s t = t
+
+-- the text after the last byte b, or all of it
+abbrev pub afterLast : ℕ → List ℕ → List ℕ
+afterLast b s = past 1 (lastByte s b) s s
+
+-- a trip key before its last '@', or all of it: the base key
+abbrev pub baseOf : List ℕ → List ℕ
+baseOf key = upTo (lastByte key 64) key key
+
+-- less one "idfm:" or "IDFM:" at the beginning
+abbrev pub rawOf : List ℕ → List ℕ
+rawOf s = cond (prefixOf lowFeed s || prefixOf highFeed s) (drop 5 s) s
+
+-- less one ":LOC" at the end
+abbrev pub withoutLoc : List ℕ → List ℕ
+withoutLoc s = cond (suffixOf loc s) (take (length s - 4) s) s
+
+-- less every ':' at the end
+abbrev pub withoutColons : List ℕ → List ℕ
+withoutColons s = take (trimmedOf s 58) s
+
+-- less every ":LOC" at the end
+abbrev pub withoutLocs : List ℕ → List ℕ
+withoutLocs s = take (trimmedText loc s) s
+
+-- what stands after the first "::", trimmed
+unfoldable pub afterColons : List ℕ → List ℕ
+afterColons s = withoutLocs (withoutColons (past 2 (firstPlace colons s) s []))
+
+-- less the last of its parts between colons, where that is "LOC" in any case
+unfoldable pub withoutLocPart : List ℕ → List ℕ
+withoutLocPart s = cond (equalIgnoringCase (afterLast 58 s) locWord) (upTo (lastByte s 58) s []) s
+
+-- "ServiceJourney" or "VehicleJourney" in any case
+unfoldable pub isKind : List ℕ → Bool
+isKind s = equalIgnoringCase s serviceJourney || equalIgnoringCase s vehicleJourney
+
+-- what stands after the kind, which ends at the place found; none where it is no kind
+unfoldable pub afterKind : List ℕ → List ℕ
+afterKind s = cond (isKind (upTo (firstByte s 58) s [])) (withoutLocPart (past 1 (firstByte s 58) s [])) []
+
+-- the parts after the kind, which is the second part between colons
+unfoldable pub afterParts : List ℕ → List ℕ
+afterParts s = afterKind (past 1 (firstByte s 58) s [])
+
+-- the first that is not empty
+abbrev pub orText : List ℕ → List ℕ → List ℕ
+orText [] t = t
+orText (b ∷ s) t = b ∷ s
+
+-- the journey id of a ref
+unfoldable pub journeyIdOf : List ℕ → List ℕ
+journeyIdOf s = orText (afterColons s) (afterParts s)
+
+-- without spaces at the beginning, and then at the end
+abbrev pub bare : List ℕ → List ℕ
+bare s = let t = drop (runOf (isOf (Byte 32)) s) s in take (trimmedOf t 32) t
+
+-- byte k of s is '-'
+abbrev pub dashAt : List ℕ → ℕ → Bool
+dashAt s k = eqb (getD s k 0) 45
+
+-- 36 bytes with four dashes at the places of a UUID
+abbrev pub dashed : List ℕ → Bool
+dashed s = eqb (length s) 36 && (dashAt s 8 && (dashAt s 13 && (dashAt s 18 && dashAt s 23)))
+
+-- the same between spaces
+unfoldable pub isUuid : List ℕ → Bool
+isUuid j = dashed (bare j)
+
+-- a text if it has that many bytes, or none
+abbrev pub ifLong : ℕ → List ℕ → List ℕ
+ifLong n s = cond (leb n (length s)) s []
+
+-- the tail of a base key by which a trip id may be known
+unfoldable pub tailOf : List ℕ → List ℕ
+tailOf s = ifLong 6 (afterLast 58 (withoutLoc (withoutColons s)))

@@ -1,0 +1,100 @@
+// The journey id of a ref, and whether it is a UUID.
+use crate::key::without_colons;
+use crate::key::without_locs;
+use crate::part::after_last;
+use crate::part::before;
+use crate::part::first;
+use crate::part::from;
+use crate::part::past_place;
+use ids::Kind;
+ghost use mathlib.Core.Path.{_≡_};
+ghost use Rattle.refs.specs.Refs.{afterColons, withoutLocPart, isKind, afterKind, afterParts, journeyIdOf, bare, dashed, isUuid};
+
+// What stands after the first "::", trimmed.
+fn after_colons<'a>(s: &'a [u8]) -> &'a [u8]
+    ensures { λ r. ⌜ now r ≡ afterColons (now (s .entry)) ⌝ }
+{
+    without_locs(without_colons(past_place(s, ids::first_place(s, b"::"), 2)))
+}
+
+// Less the last of its parts between colons, where that is "LOC" in any case.
+fn without_loc_part<'a>(s: &'a [u8]) -> &'a [u8]
+    ensures { λ r. ⌜ now r ≡ withoutLocPart (now (s .entry)) ⌝ }
+{
+    if ids::equal_ignoring_case(after_last(s, b':'), b"LOC") {
+        return before(s, ids::last_of(s, b':'));
+    }
+    s
+}
+
+fn is_kind(s: &[u8]) -> bool
+    ensures { λ r. ⌜ r ≡ isKind (now (s .entry)) ⌝ }
+{
+    if ids::equal_ignoring_case(s, b"ServiceJourney") {
+        return true;
+    }
+    ids::equal_ignoring_case(s, b"VehicleJourney")
+}
+
+// What stands after the kind, with which s begins; none where that is no kind.
+fn after_kind<'a>(s: &'a [u8]) -> &'a [u8]
+    ensures { λ r. ⌜ now r ≡ afterKind (now (s .entry)) ⌝ }
+{
+    let colon = ids::first_of(s, b':');
+    if is_kind(before(s, colon)) {
+        return without_loc_part(past_place(s, colon, 1));
+    }
+    &s[..0]
+}
+
+// The parts after the kind, which is the second part between colons.
+fn after_parts<'a>(s: &'a [u8]) -> &'a [u8]
+    ensures { λ r. ⌜ now r ≡ afterParts (now (s .entry)) ⌝ }
+{
+    after_kind(past_place(s, ids::first_of(s, b':'), 1))
+}
+
+// The journey id of a ref.
+pub fn journey_id<'a>(s: &'a [u8]) -> &'a [u8]
+    ensures { λ r. ⌜ now r ≡ journeyIdOf (now (s .entry)) ⌝ }
+{
+    let id = after_colons(s);
+    if id.len() == 0 {
+        return after_parts(s);
+    }
+    id
+}
+
+// Without spaces at the beginning and at the end.
+fn bare_text<'a>(s: &'a [u8]) -> &'a [u8]
+    ensures { λ r. ⌜ now r ≡ bare (now (s .entry)) ⌝ }
+{
+    let t = from(s, ids::run(s, Kind::Byte(b' ')));
+    first(t, ids::trimmed(t, b' '))
+}
+
+// 36 bytes with four dashes at the places of a UUID.
+fn has_dashes(s: &[u8]) -> bool
+    ensures { λ r. ⌜ r ≡ dashed (now (s .entry)) ⌝ }
+{
+    if s.len() != 36 {
+        return false;
+    }
+    if s[8] != b'-' {
+        return false;
+    }
+    if s[13] != b'-' {
+        return false;
+    }
+    if s[18] != b'-' {
+        return false;
+    }
+    s[23] == b'-'
+}
+
+// The same between spaces.
+pub fn is_uuid(j: &[u8]) -> bool
+    ensures { λ r. ⌜ r ≡ isUuid (now (j .entry)) ⌝ }
+{
+    has_dashes(bare_text(j))
+}

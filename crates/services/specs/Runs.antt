@@ -1,0 +1,68 @@
+-- Which services run on a day, as the GTFS Schedule reference has it. A day is its date's ordinal.
+use Prim.Native.Nat.{ℕ, _+_, _/_, _%_, _^_, _<_}
+use mathlib.Core.Path.{_≡_}
+use mathlib.Core.Bool.{Bool, false, not, _&&_, _||_}
+use mathlib.Core.List.{List}
+use lib.Dec.{eqb, leb}
+use lib.ListN.{getD}
+use Rattle.ids.specs.First.{first}
+use Rattle.ids.specs.Pool.{cellOf, idOf}
+use Rattle.ids.specs.Rows.{rowOf, Ascending}
+use Rattle.ids.specs.Texts.{isAt}
+use Rattle.ids.specs.declared.lookup.Found.{Found}
+use Rattle.ids.specs.declared.lookup.Found.the-variants.{At, Nothing}
+use Rattle.days.specs.Days.{ordinal}
+use Rattle.tables.specs.declared.lent.Calendars.{Calendars}
+use Rattle.tables.specs.declared.lent.Exceptions.{Exceptions}
+use Rattle.tables.specs.declared.lent.Ranges.{Ranges}
+use Rattle.services.specs.Rows.{standOf, rowIs, Ascend}
+use Rattle.services.specs.declared.rows.Rows.{Rows}
+use Rattle.services.specs.declared.rows.Rows.the-variants.{Ranges as ByNames, Exceptions as ByDay}
+
+-- the weekday of a day, Monday 0: 00010101 is a Monday
+abbrev pub weekdayAt : ℕ → ℕ
+weekdayAt day = (day + 6) % 7
+
+-- the day's weekday is one of those that a byte has, Monday lowest
+unfoldable pub onWeekday : ℕ → ℕ → Bool
+onWeekday weekdays day = eqb (weekdays / 2 ^ weekdayAt day % 2) 1
+
+abbrev pub rangeRows : Ranges → Rows
+rangeRows g = ByNames (g .feed) (g .service)
+
+abbrev pub exceptionRows : Exceptions → Rows
+exceptionRows e = ByDay (e .feed) (e .service) (e .date) (e .removed)
+
+module _ (bytes words : List ℕ) where
+  -- row k of the ranges has the day, both ends included, and its weekday
+  unfoldable pub inRange : Ranges → ℕ → ℕ → Bool
+  inRange g day k =
+      leb (ordinal (cellOf words (g .first) k)) day && (leb day (ordinal (cellOf words (g .last) k)) && onWeekday (getD bytes (g .weekdays .at + k) 0) day)
+
+  -- the feed has a calendar
+  unfoldable pub named : Calendars → List ℕ → Bool
+  named c feed = isAt (rowOf (idOf bytes words (c .feed)) (c .feed .starts .n) feed)
+
+  -- the service has an exception on the day that adds it, where the flag is 0, or removes it, where it is 1
+  unfoldable pub excepted : Exceptions → List ℕ → List ℕ → ℕ → ℕ → Bool
+  excepted e feed service day flag = isAt (first (rowIs (standOf bytes words (exceptionRows e) feed service day flag)) (e .date .n))
+
+  -- the row found, if any, has the day
+  abbrev pub rangeHas : Ranges → ℕ → Found → Bool
+  rangeHas g day (At k) = inRange g day k
+  rangeHas g day Nothing = false
+
+  -- the service's range has the day
+  unfoldable pub ranged : Ranges → List ℕ → List ℕ → ℕ → Bool
+  ranged g feed service day = rangeHas g day (first (rowIs (standOf bytes words (rangeRows g) feed service 0 0)) (g .first .n))
+
+  -- the service runs on the day: a feed without a calendar always runs; removed beats added beats the range
+  unfoldable pub runsOf : Calendars → Ranges → Exceptions → List ℕ → List ℕ → ℕ → Bool
+  runsOf c g e feed service day =
+      not (named c feed) || (not (excepted e feed service day 1) && (excepted e feed service day 0 || ranged g feed service day))
+
+  -- the three tables ascend
+  pub record Calendared (c : Calendars) (g : Ranges) (e : Exceptions) : Type 0 where
+    pub calendars : Ascending (idOf bytes words (c .feed)) (c .feed .starts .n)
+    pub ranges : Ascend bytes words (rangeRows g) (g .first .n)
+    pub exceptions : Ascend bytes words (exceptionRows e) (e .date .n)
