@@ -52,6 +52,15 @@ module _ (p : ℕ → Bool) where
       let h = none-step n (first p n) (p n) e in
       ⊎-elim (λ (q : j ≡ n). ap p q ∙ h .1) (λ m. first-none n (h .0) j m) (eq-or-lt-of-le (le-of-suc-le-suc l))
 
+  -- No number before the one found passes.
+  pub first-before : (n k : ℕ) → first p n ≡ At k → (j : ℕ) → j < k → p j ≡ false
+  unfolding first
+  first-before zero k e j l = clash (cc)
+  first-before (suc n) k e j l = go (first p n) refl e (λ q. first-before n k q j l) where
+    go : (f : Found) → first p n ≡ f → orElse f (cond (p n) (At n) Nothing) ≡ At k → (first p n ≡ At k → p j ≡ false) → p j ≡ false
+    go (At i) q r h = h (q ∙ r)
+    go Nothing q r h = first-none n q j (omega (arith, first-found (suc n) k e .0))
+
   -- A loop downwards at k: the number before k passes, or does not, or there is none.
   module _ (k : ℕ) where
     last-back : 0 < k → last p k ≡ cond (p (k - 1)) (At (k - 1)) (last p (k - 1))

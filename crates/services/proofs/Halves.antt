@@ -4,19 +4,19 @@ use native.Mathlib.Omega.{arith}
 use native.Mathlib.Nat.{eq-or-lt-of-le}
 use mathlib.Core.Path.{_≡_, refl, sym, ap, _∙_}
 use mathlib.Core.Logic.{_⊎_, inl, inr, ⊎-elim}
-use mathlib.Core.Bool.{Bool, true, false, cond}
+use mathlib.Core.Bool.{Bool, true, false}
 use mathlib.Core.List.{List, [], _∷_}
 use borrow.Author.Tests.{ltb-true, ltb-false}
 use lib.Dec.{ltb}
 use Rattle.ids.specs.Cmp.{cmp}
-use Rattle.ids.specs.First.{first, orElse}
+use Rattle.ids.specs.First.{first}
 use Rattle.ids.specs.Texts.{orAt}
 use Rattle.ids.specs.declared.lookup.Found.{Found}
 use Rattle.ids.specs.declared.lookup.Found.the-variants.{At, Nothing}
 use Rattle.ids.specs.declared.order.Order.{Order}
 use Rattle.ids.specs.declared.order.Order.the-variants.{Less, Same, More}
 use Rattle.ids.proofs.ByteOrder.{clash, same-equal, split}
-use Rattle.ids.proofs.Search.{first-hit, first-miss, first-found, first-none}
+use Rattle.ids.proofs.Search.{first-before, first-hit, first-miss, first-found, first-none}
 use Rattle.columns.specs.Order.{cmpParts, orNext, notLess}
 use Rattle.columns.proofs.Sorted.{parts-trans}
 use Rattle.services.specs.Rows.{isSame, placeOf, rowIs}
@@ -27,7 +27,7 @@ both-same Less r e = clash (cc)
 both-same Same r e = (refl, e)
 both-same More r e = clash (cc)
 
-parts-same : (a b : List (List ℕ)) → cmpParts a b ≡ Same → a ≡ b
+pub parts-same : (a b : List (List ℕ)) → cmpParts a b ≡ Same → a ≡ b
 unfolding cmpParts
 parts-same [] [] e = refl
 parts-same [] (y ∷ b) e = clash (cc)
@@ -59,15 +59,6 @@ pub is-other : (o : Order) → (o ≡ Same → ⊥) → isSame o ≡ false
 is-other Less q = refl
 is-other Same q = absurd (q refl)
 is-other More q = refl
-
--- no number before the first that passes does
-first-before : (p : ℕ → Bool) (n k : ℕ) → first p n ≡ At k → (j : ℕ) → j < k → p j ≡ false
-unfolding first
-first-before p zero k e j l = clash (cc)
-first-before p (suc n) k e j l = go (first p n) refl e (λ q. first-before p n k q j l) where
-  go : (f : Found) → first p n ≡ f → orElse f (cond (p n) (At n) Nothing) ≡ At k → (first p n ≡ At k → p j ≡ false) → p j ≡ false
-  go (At i) q r h = h (q ∙ r)
-  go Nothing q r h = first-none p n q j (omega (arith, first-found p (suc n) k e .0))
 
 module _ (row : ℕ → List (List ℕ)) (key : List (List ℕ)) (n : ℕ) where
   abbrev pub stand : ℕ → Order

@@ -6,20 +6,21 @@ use native.Mathlib.Numerals.{add-one}
 use mathlib.Core.Path.{_≡_, refl, sym, ap, _∙_}
 use mathlib.Core.Logic.{⊎-elim}
 use mathlib.Core.Bool.{Bool, true, false, not, _&&_, cond}
-use mathlib.Core.List.{List, []}
+use mathlib.Core.List.{List, [], _∷_}
+use lib.ListN.{length}
 use borrow.Author.Tests.{le-ltb, ltb-false, ltb-true}
 use lib.Dec.{eqb, ltb}
 use Rattle.ids.specs.declared.lookup.Found.{Found}
 use Rattle.ids.specs.declared.lookup.Found.the-variants.{At, Nothing}
 use Rattle.ids.specs.declared.order.Order.the-variants.{Less, Same}
 use Rattle.ids.proofs.ByteOrder.{clash, split}
-use Rattle.ids.specs.Pool.{cellOf}
+use Rattle.ids.specs.Pool.{cellOf, idOf}
 use Rattle.columns.proofs.Scan.{Missed}
 use Rattle.services.specs.Rows.{standOf, partsAt, keyOf, rowIs, isSame}
 use Rattle.services.specs.declared.rows.Rows.the-variants.{Lines}
-use Rattle.services.proofs.Halves.{earlier, none-after, is-other}
+use Rattle.services.proofs.Halves.{earlier, none-after, is-other, parts-same}
 use Rattle.trip_times.specs.Fits.{away, near, tripFit}
-use Rattle.trip_times.specs.Line.{onLine, rowFit, lineFrom, leastOf, keptOf, bestOf, beside, Planned}
+use Rattle.trip_times.specs.Line.{onLine, rowFit, lineFrom, leastOf, keptOf, bestOf, beside, lineTrip, Planned, ShortTokens}
 use Rattle.trip_times.specs.declared.fit.Count.{Count}
 use Rattle.trip_times.specs.declared.fit.Fit.{Fit}
 use Rattle.trip_times.specs.declared.fit.Fit.the-variants.{Never}
@@ -114,3 +115,16 @@ module _ (bytes words : List ℕ) (p : Plan) (token : List ℕ) (today yesterday
     unfolding standOf rowIs
     after-line k l m h j a b =
         off-line j (is-other _ (none-after (partsAt bytes words (Lines (p .lines .token))) (keyOf (Lines (p .lines .token)) token [] 0 0) (p .lines .trip .n) from e (planned .lines .pairs) k l m (λ s. let z = ap isSame s in clash (cc)) j a b))
+
+-- a text over 96 bytes is no line's token
+module _ (bytes words : List ℕ) (p : Plan) (short : ShortTokens bytes words p) (token : List ℕ) (long : 96 < length token) (today yesterday : Count) where
+  off-every-line : (k : ℕ) → k < p .lines .trip .n → onLine bytes words p token k ≡ false
+  unfolding standOf rowIs partsAt keyOf
+  off-every-line k l = is-other _ (λ e. let q = parts-same (idOf bytes words (p .lines .token) k ∷ []) (token ∷ []) e in let r : idOf bytes words (p .lines .token) k ≡ token = cc in absurd (omega (arith, short .short k l, ap length r)))
+
+  pub too-long : Nothing ≡ lineTrip bytes words p token today yesterday
+  unfolding lineTrip
+  too-long =
+      let n = p .lines .trip .n in
+      let none = none-yet (rowFit bytes words p token today yesterday) n (λ j l. off-line bytes words p token today yesterday j (off-every-line j l)) in
+      rw none

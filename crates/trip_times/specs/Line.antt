@@ -1,9 +1,10 @@
 -- The trip of a line that fits the moment asked of best. A line's rows are those of the line entries that have its token.
-use Prim.Native.Nat.{ℕ, zero, suc}
+use Prim.Native.Nat.{ℕ, zero, suc, _<_, _≤_}
 use mathlib.Core.Bool.{Bool, not, _&&_, cond}
 use mathlib.Core.List.{List, []}
 use lib.Dec.{eqb, ltb}
-use Rattle.ids.specs.Pool.{cellOf}
+use lib.ListN.{length}
+use Rattle.ids.specs.Pool.{cellOf, idOf}
 use Rattle.ids.specs.declared.lookup.Found.{Found}
 use Rattle.ids.specs.declared.lookup.Found.the-variants.{At, Nothing}
 use Rattle.columns.specs.Rows.{some}
@@ -71,3 +72,7 @@ lineTrip bytes words p token today yesterday =
 pub record Planned (bytes words : List ℕ) (p : Plan) : Type 0 where
   pub lines : InOrder bytes words (Lines (p .lines .token)) (p .lines .trip .n)
   pub calendars : Calendared bytes words (p .calendars) (p .ranges) (p .exceptions)
+
+-- no token is over 96 bytes
+pub record ShortTokens (bytes words : List ℕ) (p : Plan) : Type 0 where
+  pub short : (k : ℕ) → k < p .lines .trip .n → length (idOf bytes words (p .lines .token) k) ≤ 96

@@ -4,9 +4,11 @@
 // moment asked of from the beginning of its own day and of the day before; how these are reckoned from a moment is not settled here.
 mod fit; // how well a trip's first departure fits
 mod line; // the trip of a line that fits best
+mod upper; // the same by a token in any case
 
 pub use fit::Count;
 pub use fit::Fit;
 pub use fit::Plan;
 pub use fit::fit_of;
 pub use line::by_line;
+pub use upper::by_token;

@@ -1,0 +1,108 @@
+-- The trip that a ref names: as its id, by an alias, by an id made of its parts, by its tail. A trip is the number that a row of the trip ids has.
+use Prim.Native.Nat.{ℕ}
+use mathlib.Core.Bool.{Bool, true, not, _&&_, _||_, cond}
+use mathlib.Core.List.{List, [], _∷_, _++_}
+use lib.Dec.{eqb, leb}
+use lib.ListN.{length}
+use Rattle.ids.specs.First.{first, orElse}
+use Rattle.ids.specs.Pool.{cellOf, idOf}
+use Rattle.ids.specs.Rows.{rowOf, GoodIds}
+use Rattle.ids.specs.Texts.{prefixOf, suffixOf, holds, firstByte}
+use Rattle.ids.specs.declared.lookup.Found.{Found}
+use Rattle.ids.specs.declared.lookup.Found.the-variants.{At, Nothing}
+use Rattle.ids.specs.declared.pool.Span.{Span}
+use Rattle.refs.specs.Refs.{upTo, rawOf, withoutLoc, journeyIdOf, isUuid, tailOf}
+use Rattle.refs.specs.Words.{loc, localMark}
+use Rattle.tables.specs.declared.lent.Aliases.{Aliases}
+use Rattle.tables.specs.declared.lent.IdRows.{IdRows}
+use Rattle.trip_ids.specs.Words.{tripMark, magentaMark, sncfMark, stifMark, localTripMark}
+
+-- the keys of a journey id that is a UUID
+unfoldable pub uuidKeys : List ℕ → List (List ℕ)
+uuidKeys j = cond (isUuid j) ((tripMark ++ j) ∷ (magentaMark ++ (j ++ loc)) ∷ (sncfMark ++ (j ++ loc)) ∷ []) []
+
+-- the keys of a journey id that begins with "local-"
+unfoldable pub localKeys : List ℕ → List (List ℕ)
+localKeys j = cond (prefixOf localMark j) ((stifMark ++ (j ++ loc)) ∷ (localTripMark ++ j) ∷ []) []
+
+-- the keys of a ref less its feed
+abbrev pub rawKeys : List ℕ → List (List ℕ)
+rawKeys raw = let j = journeyIdOf raw in raw ∷ withoutLoc raw ∷ j ∷ (uuidKeys j ++ localKeys j)
+
+-- the keys by which a base key is looked up in the aliases. `siri_ref_lookup_keys` drops those that are empty, as the journey id of a ref that has none,
+-- and those that repeat another: no alias is empty, and a repeat is answered as before, so that neither changes the trip
+unfoldable pub keysOf : List ℕ → List (List ℕ)
+keysOf base = base ∷ rawKeys (rawOf base)
+
+-- the text before the first ':', or all of it
+unfoldable pub feedOf : List ℕ → List ℕ
+feedOf base = upTo (firstByte base 58) base base
+
+-- the id ends with the tail or, where that has 8 bytes or more, contains it
+unfoldable pub hasTail : List ℕ → List ℕ → Bool
+hasTail tail s = suffixOf tail s || (leb 8 (length tail) && holds tail s)
+
+-- the trip is another than the one found, if any is
+abbrev pub isOther : Found → ℕ → Bool
+isOther (At found) trip = not (eqb trip found)
+isOther Nothing trip = true
+
+-- the trip, where nothing is found
+abbrev pub unless : Found → Found → Found
+unless (At k) trip = Nothing
+unless Nothing trip = trip
+
+-- the trip of the row found
+abbrev pub tripAt : List ℕ → Span → Found → Found
+tripAt words row (At k) = At (cellOf words row k)
+tripAt words row Nothing = Nothing
+
+module _ (bytes words : List ℕ) where
+  -- trip ids and aliases ascend, and none is over 96 bytes
+  pub record Known (tripkeys : IdRows) (aliases : Aliases) : Type 0 where
+    pub trip-ids : GoodIds (idOf bytes words (tripkeys .id)) (tripkeys .id .starts .n)
+    pub alias-ids : GoodIds (idOf bytes words (aliases .id)) (aliases .id .starts .n)
+
+  module _ (tripkeys : IdRows) where
+    -- the trip whose id is the key
+    unfoldable pub tripOf : List ℕ → Found
+    tripOf key = tripAt words (tripkeys .row) (rowOf (idOf bytes words (tripkeys .id)) (tripkeys .id .starts .n) key)
+
+    -- the trip whose id is made of the ref's feed and its journey id, where that is a UUID
+    unfoldable pub builtOf : List ℕ → Found
+    builtOf base = let j = journeyIdOf base in cond (isUuid j) (tripOf (feedOf base ++ (58 ∷ tripMark ++ j))) Nothing
+
+    -- row k's id has the tail, and its trip is another than the one found, if any is
+    unfoldable pub tailRow : List ℕ → Found → ℕ → Bool
+    tailRow tail found k = hasTail tail (idOf bytes words (tripkeys .id) k) && isOther found (cellOf words (tripkeys .row) k)
+
+    -- the first such row
+    abbrev pub tailFirst : List ℕ → Found → Found
+    tailFirst tail found = first (tailRow tail found) (tripkeys .id .starts .n)
+
+    -- the trip of the first row whose id has the tail, unless such a row names another
+    unfoldable pub onlyTrip : List ℕ → Found
+    onlyTrip tail = let trip = tripAt words (tripkeys .row) (tailFirst tail Nothing) in unless (tailFirst tail trip) trip
+
+    -- the only trip whose ids have the tail of the ref, if it has one
+    unfoldable pub tailTrip : List ℕ → Found
+    tailTrip base = cond (eqb (length (tailOf base)) 0) Nothing (onlyTrip (tailOf base))
+
+    module _ (aliases : Aliases) where
+      -- the trip whose id the row found has
+      abbrev pub namedAt : Found → Found
+      namedAt (At k) = tripOf (idOf bytes words (aliases .trip) k)
+      namedAt Nothing = Nothing
+
+      -- the trip that an alias stands for
+      unfoldable pub aliasTrip : List ℕ → Found
+      aliasTrip key = namedAt (rowOf (idOf bytes words (aliases .id)) (aliases .id .starts .n) key)
+
+      -- the trip of the first key that stands for one
+      unfoldable pub firstTrip : List (List ℕ) → Found
+      firstTrip [] = Nothing
+      firstTrip (key ∷ keys) = orElse (aliasTrip key) (firstTrip keys)
+
+      -- the trip that a base key names: as its id, by its aliases, by the id made of its parts
+      unfoldable pub idTrip : List ℕ → Found
+      idTrip base = orElse (tripOf base) (orElse (firstTrip (keysOf base)) (builtOf base))
