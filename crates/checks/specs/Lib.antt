@@ -1,3 +1,2 @@
--- `Parts`: the causes of each part of a table. `Operations`: those of each operation.
-pub mod Parts
+-- `Operations`: the causes of each operation.
 pub mod Operations

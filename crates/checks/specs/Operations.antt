@@ -1,77 +1,95 @@
 -- The causes of each operation of document 01: those of every part that is lent to it.
-use mathlib.Core.List.{List, _++_}
+use mathlib.Core.List.{List, [], _∷_}
+use Rattle.tables.specs.Refuse.{Cause, joined}
 use Rattle.tables.specs.declared.bounds.Bounds.{Bounds}
-use Rattle.tables.specs.declared.cause.Cause.{Cause}
+use Rattle.tables.specs.declared.lent.Along.{Along}
 use Rattle.tables.specs.declared.lent.Journey.{Journey}
 use Rattle.tables.specs.declared.lent.LegAsked.{LegAsked}
+use Rattle.tables.specs.declared.lent.Samples.{Samples}
 use Rattle.tables.specs.declared.lent.Service.{Service}
 use Rattle.tables.specs.declared.lent.Tables.{Tables}
-use Rattle.checks.specs.Parts.{aliasesCauses, arrivalsCauses, calendarsCauses, callDistsCauses, callStopsCauses, callTimesCauses, departuresCauses, exceptionsCauses, idRowsCauses, journeyCauses, linesCauses, pointsCauses, positionsCauses, rangesCauses, sailingCauses, serviceCauses, shapesCauses, stopNamesCauses, tripAskedCauses, tripNamesCauses, tripRowsCauses, tripShapeCauses, updateDeparturesCauses, updatesCauses}
+use Rattle.schedule_rules.specs.Parts.{callTimesCauses, callsCauses, departuresCauses, positionsCauses, stopNamesCauses, tripRowsCauses, tripShapeCauses}
+use Rattle.shape_rules.specs.Parts.{lineCauses, measuresCauses, pointsCauses, pointsWithinCauses, shapesCauses}
+use Rattle.lookup_rules.specs.Parts.{aliasesCauses, calendarsCauses, exceptionsCauses, idRowsCauses, linesCauses, rangesCauses, tripNamesCauses}
+use Rattle.asked_rules.specs.Parts.{arrivalsCauses, journeyCauses, legAskedCauses, sailingCauses, serviceCauses, updateDeparturesCauses, updatesCauses}
 
 -- the calendars, ranges and exceptions
 unfoldable pub calendarTablesCauses : Bounds → Tables → List Cause
 calendarTablesCauses b t =
-    calendarsCauses b (t .calendars)
-    ++ (rangesCauses b (t .ranges)
-    ++ (exceptionsCauses b (t .exceptions)))
+    joined
+    (calendarsCauses b (t .calendars)
+    ∷ rangesCauses b (t .ranges)
+    ∷ exceptionsCauses b (t .exceptions) ∷ [])
+
+-- what a trip is looked up by: feeds and services, trip ids, aliases, lines
+unfoldable pub tripLookupCauses : Bounds → Tables → List Cause
+tripLookupCauses b t =
+    joined
+    (tripNamesCauses b (t .trips)
+    ∷ idRowsCauses b (t .tripkeys) (b .trips) (t .trips .first .n)
+    ∷ aliasesCauses b (t .aliases)
+    ∷ linesCauses b (t .lines) (t .trips .first .n) ∷ [])
 
 -- projection and backfill: the positions of stops, the rows and shapes of trips, the stops and distances of stop times, shapes and points
 unfoldable pub geometryCauses : Bounds → Tables → List Cause
 geometryCauses b t =
-    positionsCauses b (t .stops)
-    ++ (tripRowsCauses b (t .trips) (t .times .stop .n)
-    ++ (tripShapeCauses b (t .trips) (t .shapes .first .n)
-    ++ (callStopsCauses b (t .times) (t .stops .lat .n)
-    ++ (callDistsCauses b (t .times)
-    ++ (shapesCauses b (t .shapes) (t .points .lat .n)
-    ++ (pointsCauses b (t .points)))))))
+    joined
+    (positionsCauses b (t .stops)
+    ∷ tripRowsCauses b (t .trips) (t .times .stop .n)
+    ∷ tripShapeCauses (t .trips) (t .shapes .first .n)
+    ∷ callsCauses b (t .times) (t .stops .lat .n)
+    ∷ shapesCauses b (t .shapes) (t .points .lat .n)
+    ∷ pointsCauses (t .points) ∷ [])
 
 -- leg drawing: the same, the trip ids, and the trip asked of
 unfoldable pub legCauses : Bounds → Tables → LegAsked → List Cause
 legCauses b t l =
-    geometryCauses b t
-    ++ (idRowsCauses b (t .tripkeys) (b .trips) (t .trips .first .n)
-    ++ (tripAskedCauses b l))
+    joined
+    (geometryCauses b t
+    ∷ idRowsCauses b (t .tripkeys) (b .trips) (t .trips .first .n)
+    ∷ legAskedCauses b l ∷ [])
 
 -- whether a service runs: the calendar tables, and the service asked of
 unfoldable pub serviceDayCauses : Bounds → Tables → Service → List Cause
-serviceDayCauses b t s = calendarTablesCauses b t ++ (serviceCauses b s)
+serviceDayCauses b t s = joined (calendarTablesCauses b t ∷ serviceCauses b s ∷ [])
 
--- trip matching: the rows, feeds and services of trips, departures, trip ids, aliases, lines, the calendar tables, and the journey asked of
+-- trip matching: the rows of trips, departures, what a trip is looked up by, the calendar tables, and the journey asked of
 unfoldable pub matchingCauses : Bounds → Tables → Journey → List Cause
 matchingCauses b t j =
-    tripRowsCauses b (t .trips) (t .times .departure .n)
-    ++ (tripNamesCauses b (t .trips)
-    ++ (departuresCauses b (t .times)
-    ++ (idRowsCauses b (t .tripkeys) (b .trips) (t .trips .first .n)
-    ++ (aliasesCauses b (t .aliases)
-    ++ (linesCauses b (t .lines) (t .trips .first .n)
-    ++ (calendarTablesCauses b t
-    ++ (journeyCauses b j)))))))
-
--- the ids of all tables but the calendars
-unfoldable pub namesCauses : Bounds → Tables → List Cause
-namesCauses b t =
-    stopNamesCauses b (t .stops)
-    ++ (idRowsCauses b (t .stopkeys) (b .stops) (t .stops .lat .n)
-    ++ (tripNamesCauses b (t .trips)
-    ++ (idRowsCauses b (t .tripkeys) (b .trips) (t .trips .first .n)
-    ++ (aliasesCauses b (t .aliases)
-    ++ (linesCauses b (t .lines) (t .trips .first .n))))))
-
--- the updates and the sailing
-unfoldable pub askedCauses : Bounds → Tables → List Cause
-askedCauses b t =
-    updatesCauses b (t .updates)
-    ++ (arrivalsCauses b (t .updates)
-    ++ (updateDeparturesCauses b (t .updates)
-    ++ (sailingCauses b (t .sailing))))
+    joined
+    (tripRowsCauses b (t .trips) (t .times .departure .n)
+    ∷ departuresCauses b (t .times)
+    ∷ tripLookupCauses b t
+    ∷ calendarTablesCauses b t
+    ∷ journeyCauses b j ∷ [])
 
 -- the estimate: every table
 unfoldable pub estimateCauses : Bounds → Tables → List Cause
 estimateCauses b t =
-    geometryCauses b t
-    ++ (callTimesCauses b (t .times)
-    ++ (namesCauses b t
-    ++ (calendarTablesCauses b t
-    ++ (askedCauses b t))))
+    joined
+    (geometryCauses b t
+    ∷ callTimesCauses (t .times)
+    ∷ stopNamesCauses b (t .stops)
+    ∷ idRowsCauses b (t .stopkeys) (b .stops) (t .stops .lat .n)
+    ∷ tripLookupCauses b t
+    ∷ calendarTablesCauses b t
+    ∷ updatesCauses b (t .updates)
+    ∷ arrivalsCauses (t .updates)
+    ∷ updateDeparturesCauses (t .updates)
+    ∷ sailingCauses b (t .sailing) ∷ [])
+
+-- interpolation alone: the line, the ends of a leg, distances and numbers
+unfoldable pub interpolationCauses : Bounds → Along → List Cause
+interpolationCauses b a =
+    joined
+    (lineCauses b (a .line)
+    ∷ pointsCauses (a .ends)
+    ∷ measuresCauses (a .dists) (a .numbers) (a .dists .n) ∷ [])
+
+-- calibration alone: the line, samples and numbers
+unfoldable pub calibrationCauses : Bounds → Samples → List Cause
+calibrationCauses b s =
+    joined
+    (lineCauses b (s .line)
+    ∷ pointsWithinCauses (s .at) (b .calls)
+    ∷ measuresCauses (s .dist) (s .numbers) (s .at .lat .n) ∷ [])

@@ -1,12 +1,13 @@
 -- What makes a refusal, and the first that applies: the least number whose cause is there.
 use Prim.Native.Nat.{ℕ, _+_, _-_, min}
 use mathlib.Core.Bool.{Bool, true, false, not, cond, _||_}
-use mathlib.Core.List.{List, [], _∷_}
+use mathlib.Core.List.{List, [], _∷_, _++_}
 use lib.Dec.{ltb, eqb}
 use lib.IntN.{pos, negsuc}
 use lib.Ieee.{Float, nan, isNan}
 use lib.ListN.{length, getD}
 use Rattle.days.specs.Days.{isDate}
+use Rattle.ids.specs.declared.pool.IdColumn.{IdColumn}
 use Rattle.ids.specs.declared.pool.Span.{Span}
 use Rattle.columns.specs.Rows.{some, among}
 use Rattle.columns.specs.Number.{reachesAt, endsPastAt, outsideAt}
@@ -15,9 +16,11 @@ use Rattle.columns.specs.Text.{badIdAt}
 use Rattle.columns.specs.Order.{outOfOrderAt}
 use Rattle.tables.specs.Pools.{Pools, partOf, flagsOf, poolLength}
 use Rattle.tables.specs.declared.bounds.Bounds.{Bounds}
-use Rattle.tables.specs.declared.cause.Cause.{Cause}
+use Rattle.tables.specs.declared.cause.Mark.{Mark}
+use Rattle.tables.specs.declared.cause.Rule.{Rule}
+use Rattle.tables.specs.declared.cause.Rule.the-variants.{Nothing, One, Names}
 use Rattle.tables.specs.declared.cause.Test.{Test}
-use Rattle.tables.specs.declared.cause.Test.the-variants.{Pass, Column, Ids, Over, Reaches, OffGlobe, Unsorted, IdsPast, EndsPast, Moment, Offset, BadIds, NotFinite, NoDate, NotANumber}
+use Rattle.tables.specs.declared.cause.Test.the-variants.{Column, Ids, Over, Reaches, OffGlobe, Unsorted, IdsPast, EndsPast, Moment, Offset, BadIds, NotFinite, NoDate, NotANumber}
 
 -- number k is no date
 unfoldable pub noDateAt : List ℕ → ℕ → Bool
@@ -33,7 +36,6 @@ illSized len s n = ltb len (s .at + s .n) || not (eqb (s .n) n)
 
 -- the fault is there
 unfoldable pub failsOf : Pools → Test → Bool
-failsOf p Pass = false
 failsOf p (Column pool s n) = illSized (poolLength p pool) s n
 failsOf p (Ids c n) = illSized (length (p .words)) (c .starts) n || illSized (length (p .words)) (c .lens) n
 failsOf p (Over n most) = ltb most n
@@ -55,6 +57,20 @@ failsOf p (NotFinite s m) = some (among (m .all) (flagsOf p m) (notFiniteAt (par
 failsOf p (NoDate s) = some (noDateAt (partOf (p .words) s)) (length (partOf (p .words) s))
 failsOf p (NotANumber s) = some (nanAt (partOf (p .reals) s)) (length (partOf (p .reals) s))
 
+-- all rows have a value; or those whose flag is set
+abbrev pub always : Mark
+always = record { all = true; flags = record { at = 0; n = 0 } }
+
+abbrev pub whereSet : Span → Mark
+whereSet s = record { all = false; flags = s }
+
+-- a refusal's number, and the fault that it is given for
+abbrev pub Cause : Type 0
+Cause = ℕ × Test
+
+abbrev pub cause : ℕ → Test → Cause
+cause n t = (n, t)
+
 -- the lesser of two numbers, where 0 is none
 abbrev pub sooner : ℕ → ℕ → ℕ
 sooner best n = cond (eqb best 0 || ltb n best) n best
@@ -71,6 +87,26 @@ leastOf p best (c ∷ cs) = leastOf p (withCause p best c) cs
 -- the first refusal that applies, or 0
 abbrev pub refusalOf : Pools → List Cause → ℕ
 refusalOf p cs = leastOf p 0 cs
+
+-- a column of n ids, of which those that count are at most so long, and are not empty unless they may be
+abbrev pub idCauses : IdColumn → Mark → Bool → ℕ → ℕ → List Cause
+idCauses ids mark empty n most =
+    (1, Ids ids n) ∷ (2, Reaches (ids .lens) mark (most + 1)) ∷ (5, IdsPast ids mark) ∷ (7, BadIds ids mark empty) ∷ []
+
+-- the causes of a rule, and of rules
+abbrev pub causesOf : Rule → List Cause
+causesOf Nothing = []
+causesOf (One n t) = (n, t) ∷ []
+causesOf (Names ids mark empty n most) = idCauses ids mark empty n most
+
+abbrev pub causesIn : List Rule → List Cause
+causesIn [] = []
+causesIn (r ∷ rs) = causesOf r ++ causesIn rs
+
+-- lists one after another
+unfoldable pub joined : List (List Cause) → List Cause
+joined [] = []
+joined (xs ∷ xss) = xs ++ joined xss
 
 -- the bounds of document 01's chart
 abbrev pub chartBounds : Bounds

@@ -1,5 +1,5 @@
 // What makes a refusal: a test of a column, with the refusal's number. Of the tests that find a fault the
-// least number is given.
+// least number is given. Rules list causes, a row for each, or one for a whole column of ids.
 use crate::faults::no_date;
 use crate::faults::not_a_number;
 use crate::pools::bytes_of;
@@ -11,10 +11,10 @@ use columns::Key;
 use ids::IdColumn;
 use ids::Span;
 ghost use mathlib.Core.Path.{_≡_};
-ghost use mathlib.Core.Bool.{_||_, cond};
+ghost use mathlib.Core.Bool.{_||_};
 ghost use lib.ListN.{length};
 ghost use Rattle.tables.specs.Pools.{pools, poolLength};
-ghost use Rattle.tables.specs.Refuse.{illSized, failsOf, sooner, leastOf};
+ghost use Rattle.tables.specs.Refuse.{illSized, failsOf, sooner, withCause, leastOf, idCauses, causesOf, causesIn};
 
 // The five pools.
 pub enum Pool {
@@ -33,8 +33,6 @@ pub struct Mark {
 
 // A fault that a column or a count may have.
 pub enum Test {
-    // none
-    Pass,
     // a column runs past its pool, or has not so many rows
     Column(Pool, Span, u32),
     // the same of either column of ids
@@ -65,8 +63,15 @@ pub enum Test {
     NotANumber(Span),
 }
 
-// A refusal's number, and the fault that it is given for.
-pub struct Cause(pub u32, pub Test);
+// A row of a part's rules.
+pub enum Rule {
+    // none
+    Nothing,
+    // a refusal's number, and the fault that it is given for
+    One(u32, Test),
+    // those of a column of so many ids, each at most so long, and not empty unless it may be
+    Names(IdColumn, Mark, bool, u32, u32),
+}
 
 // Whether a column is not n rows of a pool of len.
 fn ill_sized(len: usize, span: Span, n: u32) -> bool
@@ -121,7 +126,6 @@ pub fn fails(
     ensures { λ r. ⌜ r ≡ failsOf (pools (now (bytes .entry)) (now (words .entry)) (now (times .entry)) (now (reals .entry)) (now (dists .entry))) test ⌝ }
 {
     match test {
-        Test::Pass => false,
         Test::Column(pool, s, n) => ill_sized(
             length_of(bytes, words, times, reals, dists, pool),
             s,
@@ -211,16 +215,83 @@ fn earlier(best: u32, n: u32) -> u32
 }
 
 // The least refusal with one cause more.
-fn taken(best: u32, there: bool, n: u32) -> u32
-    ensures { λ r. ⌜ r ≡ cond there (sooner best n) best ⌝ }
+fn tested(
+    bytes: &[u8],
+    words: &[u32],
+    times: &[i64],
+    reals: &[f64],
+    dists: &[f32],
+    best: u32,
+    n: u32,
+    test: Test,
+) -> u32
+    ensures { λ r. ⌜ r ≡ withCause (pools (now (bytes .entry)) (now (words .entry)) (now (times .entry)) (now (reals .entry)) (now (dists .entry))) best (n, test) ⌝ }
 {
-    if there {
+    if fails(bytes, words, times, reals, dists, test) {
         return earlier(best, n);
     }
     best
 }
 
-// The least number whose cause is there, from the least so far on.
+// The least refusal with the causes of a column of ids.
+fn named(
+    bytes: &[u8],
+    words: &[u32],
+    times: &[i64],
+    reals: &[f64],
+    dists: &[f32],
+    best: u32,
+    ids: IdColumn,
+    mark: Mark,
+    empty: bool,
+    n: u32,
+    most: u32,
+) -> u32
+    ensures { λ r. ⌜ r ≡ leastOf (pools (now (bytes .entry)) (now (words .entry)) (now (times .entry)) (now (reals .entry)) (now (dists .entry))) best (idCauses ids mark empty n most) ⌝ }
+{
+    let lens = ids.lens;
+    let sized = Test::Ids(ids, n);
+    let long = Test::Reaches(lens, mark, most as u64 + 1);
+    let past = Test::IdsPast(ids, mark);
+    let bad = Test::BadIds(ids, mark, empty);
+    let best1 = tested(bytes, words, times, reals, dists, best, 1, sized);
+    let best2 = tested(bytes, words, times, reals, dists, best1, 2, long);
+    let best3 = tested(bytes, words, times, reals, dists, best2, 5, past);
+    tested(bytes, words, times, reals, dists, best3, 7, bad)
+}
+
+// The least refusal with the causes of one rule.
+fn ruled(
+    bytes: &[u8],
+    words: &[u32],
+    times: &[i64],
+    reals: &[f64],
+    dists: &[f32],
+    best: u32,
+    rule: Rule,
+) -> u32
+    ensures { λ r. ⌜ r ≡ leastOf (pools (now (bytes .entry)) (now (words .entry)) (now (times .entry)) (now (reals .entry)) (now (dists .entry))) best (causesOf rule) ⌝ }
+{
+    match rule {
+        Rule::Nothing => best,
+        Rule::One(n, test) => tested(bytes, words, times, reals, dists, best, n, test),
+        Rule::Names(ids, mark, empty, n, most) => named(
+            bytes,
+            words,
+            times,
+            reals,
+            dists,
+            best,
+            ids,
+            mark,
+            empty,
+            n,
+            most,
+        ),
+    }
+}
+
+// The least number whose cause is there, from the least so far on. No part has more rules than nine.
 pub fn least(
     bytes: &[u8],
     words: &[u32],
@@ -228,16 +299,15 @@ pub fn least(
     reals: &[f64],
     dists: &[f32],
     best: u32,
-    causes: [Cause; 8],
+    rules: [Rule; 9],
 ) -> u32
-    ensures { λ r. ⌜ r ≡ leastOf (pools (now (bytes .entry)) (now (words .entry)) (now (times .entry)) (now (reals .entry)) (now (dists .entry))) best causes ⌝ }
+    ensures { λ r. ⌜ r ≡ leastOf (pools (now (bytes .entry)) (now (words .entry)) (now (times .entry)) (now (reals .entry)) (now (dists .entry))) best (causesIn rules) ⌝ }
 {
     let mut found = best;
     let mut i = 0;
-    while i < 8 {
-        let c = causes[i];
-        let test = c.1;
-        found = taken(found, fails(bytes, words, times, reals, dists, test), c.0);
+    while i < 9 {
+        let rule = rules[i];
+        found = ruled(bytes, words, times, reals, dists, found, rule);
         i += 1;
     }
     found

@@ -149,3 +149,21 @@ pub struct Service {
 pub struct LegAsked {
     pub trip: IdColumn,
 }
+
+// What interpolation alone is lent: the points of one line, the positions of a leg's ends, distances, and a
+// fraction and calibration numbers. Each may be empty.
+pub struct Along {
+    pub line: Points,
+    pub ends: Points,
+    pub dists: Span,
+    pub numbers: Span,
+}
+
+// What calibration alone is lent: the points of one line, samples, each a position and a distance, and
+// calibration numbers.
+pub struct Samples {
+    pub line: Points,
+    pub at: Points,
+    pub dist: Span,
+    pub numbers: Span,
+}

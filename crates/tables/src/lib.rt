@@ -7,13 +7,14 @@ mod lent; // lent.rt: the tables and their columns
 mod pools; // pools.rt: a column's part of its pool
 
 pub use bounds::Bounds;
-pub use cause::Cause;
 pub use cause::Mark;
 pub use cause::Pool;
+pub use cause::Rule;
 pub use cause::Test;
 pub use cause::fails;
 pub use cause::least;
 pub use lent::Aliases;
+pub use lent::Along;
 pub use lent::Calendars;
 pub use lent::Exceptions;
 pub use lent::IdRows;
@@ -23,6 +24,7 @@ pub use lent::Lines;
 pub use lent::Points;
 pub use lent::Ranges;
 pub use lent::Sailing;
+pub use lent::Samples;
 pub use lent::Service;
 pub use lent::Shapes;
 pub use lent::StopTimes;

@@ -4,9 +4,6 @@ use Rattle.tables.specs.Refuse.{failsOf}
 use Rattle.tables.proofs.cause.fails.Statement.{statement}
 use Rattle.tables.proofs.cause.fails.Tie as tie
 
-enum-told : tie.Need-enum-told
-enum-told c = search needs
-
 enum-known-test : tie.Need-enum-known-test
 enum-known-test c = search needs
 
@@ -165,69 +162,64 @@ not-a-number-requires c κs = search needs
 
 returns : tie.Need-returns
 unfolding failsOf
-returns c = ap (failsOf _) (sym (c .enum-told .given .1))
+returns c = (rw (c .before .length-of .ensures) at (c .ill-sized .ensures)) ∙ ap (failsOf _) (sym (c .before .before .before .test .given .1))
 
 returns-2 : tie.Need-returns-2
 unfolding failsOf
-returns-2 c = (rw (c .before .length-of .ensures) at (c .ill-sized .ensures)) ∙ ap (failsOf _) (sym (c .before .before .before .test .given .1))
+returns-2 c = c .ids-ill-sized .ensures ∙ ap (failsOf _) (sym (c .before .before .test2 .given .1))
 
 returns-3 : tie.Need-returns-3
 unfolding failsOf
-returns-3 c = c .ids-ill-sized .ensures ∙ ap (failsOf _) (sym (c .before .before .test2 .given .1))
+returns-3 c = ap (failsOf _) (sym (c .before .test3 .given .1))
 
 returns-4 : tie.Need-returns-4
 unfolding failsOf
-returns-4 c = ap (failsOf _) (sym (c .before .test3 .given .1))
+returns-4 c = (rw (c .before .bytes-of .ensures, c .before .before .words-of .ensures) at (c .reaches .ensures)) ∙ ap (failsOf _) (sym (c .before .before .before .before .before .test4 .given .1))
 
 returns-5 : tie.Need-returns-5
 unfolding failsOf
-returns-5 c = (rw (c .before .bytes-of .ensures, c .before .before .words-of .ensures) at (c .reaches .ensures)) ∙ ap (failsOf _) (sym (c .before .before .before .before .before .test4 .given .1))
+returns-5 c = (rw (c .before .bytes-of2 .ensures, c .before .before .reals-of2 .ensures, c .before .before .before .reals-of .ensures) at (c .off-globe .ensures)) ∙ ap (failsOf _) (sym (c .before .before .before .before .before .before .test5 .given .1))
 
 returns-6 : tie.Need-returns-6
 unfolding failsOf
-returns-6 c = (rw (c .before .bytes-of2 .ensures, c .before .before .reals-of2 .ensures, c .before .before .before .reals-of .ensures) at (c .off-globe .ensures)) ∙ ap (failsOf _) (sym (c .before .before .before .before .before .before .test5 .given .1))
+returns-6 c = c .unsorted .ensures ∙ ap (failsOf _) (sym (c .before .before .test6 .given .1))
 
 returns-7 : tie.Need-returns-7
 unfolding failsOf
-returns-7 c = c .unsorted .ensures ∙ ap (failsOf _) (sym (c .before .before .test6 .given .1))
+returns-7 c = (rw (c .before .bytes-of3 .ensures, c .before .before .words-of3 .ensures, c .before .before .before .words-of2 .ensures) at (c .ends-past .ensures)) ∙ ap (failsOf _) (sym (c .before .before .before .before .before .before .before .before .test7 .given .1))
 
 returns-8 : tie.Need-returns-8
 unfolding failsOf
-returns-8 c = (rw (c .before .bytes-of3 .ensures, c .before .before .words-of3 .ensures, c .before .before .before .words-of2 .ensures) at (c .ends-past .ensures)) ∙ ap (failsOf _) (sym (c .before .before .before .before .before .before .before .before .test7 .given .1))
+returns-8 c = (rw (c .before .before .words-of5 .ensures, c .before .before .before .words-of4 .ensures) at (c .ends-past2 .ensures)) ∙ ap (failsOf _) (sym (c .before .before .before .before .before .test8 .given .1))
 
 returns-9 : tie.Need-returns-9
 unfolding failsOf
-returns-9 c = (rw (c .before .before .words-of5 .ensures, c .before .before .before .words-of4 .ensures) at (c .ends-past2 .ensures)) ∙ ap (failsOf _) (sym (c .before .before .before .before .before .test8 .given .1))
+returns-9 c = (rw (c .before .bytes-of4 .ensures, c .before .before .times-of .ensures) at (c .outside .ensures)) ∙ ap (failsOf _) (sym (c .before .before .before .before .before .test9 .given .1))
 
 returns-10 : tie.Need-returns-10
 unfolding failsOf
-returns-10 c = (rw (c .before .bytes-of4 .ensures, c .before .before .times-of .ensures) at (c .outside .ensures)) ∙ ap (failsOf _) (sym (c .before .before .before .before .before .test9 .given .1))
+returns-10 c = (rw (c .before .before .times-of2 .ensures) at (c .outside2 .ensures)) ∙ ap (failsOf _) (sym (c .before .before .before .before .test10 .given .1))
 
 returns-11 : tie.Need-returns-11
 unfolding failsOf
-returns-11 c = (rw (c .before .before .times-of2 .ensures) at (c .outside2 .ensures)) ∙ ap (failsOf _) (sym (c .before .before .before .before .test10 .given .1))
+returns-11 c = (rw (c .before .bytes-of5 .ensures, c .before .before .words-of7 .ensures, c .before .before .before .words-of6 .ensures) at (c .bad-ids .ensures)) ∙ ap (failsOf _) (sym (c .before .before .before .before .before .before .before .before .test11 .given .1))
 
 returns-12 : tie.Need-returns-12
 unfolding failsOf
-returns-12 c = (rw (c .before .bytes-of5 .ensures, c .before .before .words-of7 .ensures, c .before .before .before .words-of6 .ensures) at (c .bad-ids .ensures)) ∙ ap (failsOf _) (sym (c .before .before .before .before .before .before .before .before .test11 .given .1))
+returns-12 c = (rw (c .before .bytes-of6 .ensures, c .before .before .dists-of .ensures) at (c .not-finite .ensures)) ∙ ap (failsOf _) (sym (c .before .before .before .before .before .test12 .given .1))
 
 returns-13 : tie.Need-returns-13
 unfolding failsOf
-returns-13 c = (rw (c .before .bytes-of6 .ensures, c .before .before .dists-of .ensures) at (c .not-finite .ensures)) ∙ ap (failsOf _) (sym (c .before .before .before .before .before .test12 .given .1))
+returns-13 c = (rw (c .before .words-of8 .ensures) at (c .no-date .ensures)) ∙ ap (failsOf _) (sym (c .before .before .before .test13 .given .1))
 
 returns-14 : tie.Need-returns-14
 unfolding failsOf
-returns-14 c = (rw (c .before .words-of8 .ensures) at (c .no-date .ensures)) ∙ ap (failsOf _) (sym (c .before .before .before .test13 .given .1))
-
-returns-15 : tie.Need-returns-15
-unfolding failsOf
-returns-15 c = (rw (c .before .reals-of3 .ensures) at (c .not-a-number .ensures)) ∙ ap (failsOf _) (sym (c .before .before .before .test14 .given .1))
+returns-14 c = (rw (c .before .reals-of3 .ensures) at (c .not-a-number .ensures)) ∙ ap (failsOf _) (sym (c .before .before .before .test14 .given .1))
 
 pub fails-spec : {M : Type 1} → statement M
 fails-spec =
     tie.close
     (tie.spec
-    enum-told
     enum-known-test
     length-of-requires
     ill-sized-requires
@@ -293,5 +285,4 @@ fails-spec =
     returns-11
     returns-12
     returns-13
-    returns-14
-    returns-15)
+    returns-14)

@@ -1,0 +1,2 @@
+-- `Parts`: the causes of each part that is asked of.
+pub mod Parts

@@ -1,0 +1,170 @@
+-- What each operation may take for granted where nothing is refused: no cause of any part is there. `Parts` of `schedule_rules`, `shape_rules`, `lookup_rules`, `asked_rules` says what that gives of each.
+use mathlib.Core.Path.{_≡_}
+use lib.Dec.{T}
+use Rattle.tables.specs.Pools.{Pools}
+use Rattle.tables.specs.Refuse.{joined, refusalOf}
+use Rattle.tables.specs.declared.bounds.Bounds.{Bounds}
+use Rattle.tables.specs.declared.lent.Along.{Along}
+use Rattle.tables.specs.declared.lent.Journey.{Journey}
+use Rattle.tables.specs.declared.lent.LegAsked.{LegAsked}
+use Rattle.tables.specs.declared.lent.Samples.{Samples}
+use Rattle.tables.specs.declared.lent.Service.{Service}
+use Rattle.tables.specs.declared.lent.Tables.{Tables}
+use Rattle.tables.proofs.Passed.{numbered, Clear, clear-at, not-refused}
+use Rattle.schedule_rules.specs.Parts.{callTimesCauses, callsCauses, departuresCauses, positionsCauses, stopNamesCauses, tripRowsCauses, tripShapeCauses}
+use Rattle.shape_rules.specs.Parts.{lineCauses, measuresCauses, pointsCauses, pointsWithinCauses, shapesCauses}
+use Rattle.lookup_rules.specs.Parts.{aliasesCauses, calendarsCauses, exceptionsCauses, idRowsCauses, linesCauses, rangesCauses, tripNamesCauses}
+use Rattle.asked_rules.specs.Parts.{arrivalsCauses, journeyCauses, legAskedCauses, sailingCauses, serviceCauses, updateDeparturesCauses, updatesCauses}
+use Rattle.checks.specs.Operations.{calendarTablesCauses, tripLookupCauses, geometryCauses, legCauses, serviceDayCauses, matchingCauses, estimateCauses, interpolationCauses, calibrationCauses}
+
+module _ (p : Pools) where
+  -- the calendar tables
+  pub record Calendar (b : Bounds) (t : Tables) : Type 0 where
+    pub calendars : Clear p (calendarsCauses b (t .calendars))
+    pub ranges : Clear p (rangesCauses b (t .ranges))
+    pub exceptions : Clear p (exceptionsCauses b (t .exceptions))
+
+  calendar-parts : (b : Bounds) (t : Tables) → Clear p (calendarTablesCauses b t) → Calendar b t
+  unfolding calendarTablesCauses
+  calendar-parts b t h = let at = clear-at p _ h in record { calendars = at 0; ranges = at 1; exceptions = at 2 }
+
+  -- what a trip is looked up by
+  pub record Lookup (b : Bounds) (t : Tables) : Type 0 where
+    pub names : Clear p (tripNamesCauses b (t .trips))
+    pub trip-ids : Clear p (idRowsCauses b (t .tripkeys) (b .trips) (t .trips .first .n))
+    pub aliases : Clear p (aliasesCauses b (t .aliases))
+    pub lines : Clear p (linesCauses b (t .lines) (t .trips .first .n))
+
+  lookup-parts : (b : Bounds) (t : Tables) → Clear p (tripLookupCauses b t) → Lookup b t
+  unfolding tripLookupCauses
+  lookup-parts b t h = let at = clear-at p _ h in record { names = at 0; trip-ids = at 1; aliases = at 2; lines = at 3 }
+
+  -- projection and backfill
+  pub record Geometry (b : Bounds) (t : Tables) : Type 0 where
+    pub positions : Clear p (positionsCauses b (t .stops))
+    pub trip-rows : Clear p (tripRowsCauses b (t .trips) (t .times .stop .n))
+    pub trip-shape : Clear p (tripShapeCauses (t .trips) (t .shapes .first .n))
+    pub calls : Clear p (callsCauses b (t .times) (t .stops .lat .n))
+    pub shapes : Clear p (shapesCauses b (t .shapes) (t .points .lat .n))
+    pub points : Clear p (pointsCauses (t .points))
+
+  geometry-parts : (b : Bounds) (t : Tables) → Clear p (geometryCauses b t) → Geometry b t
+  unfolding geometryCauses
+  geometry-parts b t h = let at = clear-at p _ h in record { positions = at 0; trip-rows = at 1; trip-shape = at 2; calls = at 3; shapes = at 4; points = at 5 }
+
+  geometry-numbered : (b : Bounds) (t : Tables) → T (numbered (geometryCauses b t))
+  unfolding geometryCauses joined
+  geometry-numbered b t = tt
+
+  pub geometry-holds : (b : Bounds) (t : Tables) → refusalOf p (geometryCauses b t) ≡ 0 → Geometry b t
+  geometry-holds b t e = geometry-parts b t (not-refused p _ (geometry-numbered b t) e)
+
+  -- leg drawing
+  pub record Leg (b : Bounds) (t : Tables) (l : LegAsked) : Type 0 where
+    pub geometry : Geometry b t
+    pub trip-ids : Clear p (idRowsCauses b (t .tripkeys) (b .trips) (t .trips .first .n))
+    pub asked : Clear p (legAskedCauses b l)
+
+  leg-parts : (b : Bounds) (t : Tables) (l : LegAsked) → Clear p (legCauses b t l) → Leg b t l
+  unfolding legCauses
+  leg-parts b t l h = let at = clear-at p _ h in record { geometry = geometry-parts b t (at 0); trip-ids = at 1; asked = at 2 }
+
+  leg-numbered : (b : Bounds) (t : Tables) (l : LegAsked) → T (numbered (legCauses b t l))
+  unfolding legCauses geometryCauses joined
+  leg-numbered b t l = tt
+
+  pub leg-holds : (b : Bounds) (t : Tables) (l : LegAsked) → refusalOf p (legCauses b t l) ≡ 0 → Leg b t l
+  leg-holds b t l e = leg-parts b t l (not-refused p _ (leg-numbered b t l) e)
+
+  -- whether a service runs
+  pub record ServiceDay (b : Bounds) (t : Tables) (s : Service) : Type 0 where
+    pub calendar : Calendar b t
+    pub asked : Clear p (serviceCauses b s)
+
+  service-day-parts : (b : Bounds) (t : Tables) (s : Service) → Clear p (serviceDayCauses b t s) → ServiceDay b t s
+  unfolding serviceDayCauses
+  service-day-parts b t s h = let at = clear-at p _ h in record { calendar = calendar-parts b t (at 0); asked = at 1 }
+
+  service-day-numbered : (b : Bounds) (t : Tables) (s : Service) → T (numbered (serviceDayCauses b t s))
+  unfolding serviceDayCauses calendarTablesCauses joined
+  service-day-numbered b t s = tt
+
+  pub service-day-holds : (b : Bounds) (t : Tables) (s : Service) → refusalOf p (serviceDayCauses b t s) ≡ 0 → ServiceDay b t s
+  service-day-holds b t s e = service-day-parts b t s (not-refused p _ (service-day-numbered b t s) e)
+
+  -- trip matching
+  pub record Matching (b : Bounds) (t : Tables) (j : Journey) : Type 0 where
+    pub trip-rows : Clear p (tripRowsCauses b (t .trips) (t .times .departure .n))
+    pub departures : Clear p (departuresCauses b (t .times))
+    pub lookup : Lookup b t
+    pub calendar : Calendar b t
+    pub asked : Clear p (journeyCauses b j)
+
+  matching-parts : (b : Bounds) (t : Tables) (j : Journey) → Clear p (matchingCauses b t j) → Matching b t j
+  unfolding matchingCauses
+  matching-parts b t j h = let at = clear-at p _ h in record { trip-rows = at 0; departures = at 1; lookup = lookup-parts b t (at 2); calendar = calendar-parts b t (at 3); asked = at 4 }
+
+  matching-numbered : (b : Bounds) (t : Tables) (j : Journey) → T (numbered (matchingCauses b t j))
+  unfolding matchingCauses calendarTablesCauses tripLookupCauses joined
+  matching-numbered b t j = tt
+
+  pub matching-holds : (b : Bounds) (t : Tables) (j : Journey) → refusalOf p (matchingCauses b t j) ≡ 0 → Matching b t j
+  matching-holds b t j e = matching-parts b t j (not-refused p _ (matching-numbered b t j) e)
+
+  -- the estimate
+  pub record Estimate (b : Bounds) (t : Tables) : Type 0 where
+    pub geometry : Geometry b t
+    pub call-times : Clear p (callTimesCauses (t .times))
+    pub stop-names : Clear p (stopNamesCauses b (t .stops))
+    pub stop-ids : Clear p (idRowsCauses b (t .stopkeys) (b .stops) (t .stops .lat .n))
+    pub lookup : Lookup b t
+    pub calendar : Calendar b t
+    pub updates : Clear p (updatesCauses b (t .updates))
+    pub arrivals : Clear p (arrivalsCauses (t .updates))
+    pub departures : Clear p (updateDeparturesCauses (t .updates))
+    pub sailing : Clear p (sailingCauses b (t .sailing))
+
+  estimate-parts : (b : Bounds) (t : Tables) → Clear p (estimateCauses b t) → Estimate b t
+  unfolding estimateCauses
+  estimate-parts b t h = let at = clear-at p _ h in record { geometry = geometry-parts b t (at 0); call-times = at 1; stop-names = at 2; stop-ids = at 3; lookup = lookup-parts b t (at 4); calendar = calendar-parts b t (at 5); updates = at 6; arrivals = at 7; departures = at 8; sailing = at 9 }
+
+  estimate-numbered : (b : Bounds) (t : Tables) → T (numbered (estimateCauses b t))
+  unfolding estimateCauses calendarTablesCauses geometryCauses tripLookupCauses joined
+  estimate-numbered b t = tt
+
+  pub estimate-holds : (b : Bounds) (t : Tables) → refusalOf p (estimateCauses b t) ≡ 0 → Estimate b t
+  estimate-holds b t e = estimate-parts b t (not-refused p _ (estimate-numbered b t) e)
+
+  -- interpolation alone
+  pub record Interpolation (b : Bounds) (a : Along) : Type 0 where
+    pub line : Clear p (lineCauses b (a .line))
+    pub ends : Clear p (pointsCauses (a .ends))
+    pub measures : Clear p (measuresCauses (a .dists) (a .numbers) (a .dists .n))
+
+  interpolation-parts : (b : Bounds) (a : Along) → Clear p (interpolationCauses b a) → Interpolation b a
+  unfolding interpolationCauses
+  interpolation-parts b a h = let at = clear-at p _ h in record { line = at 0; ends = at 1; measures = at 2 }
+
+  interpolation-numbered : (b : Bounds) (a : Along) → T (numbered (interpolationCauses b a))
+  unfolding interpolationCauses joined
+  interpolation-numbered b a = tt
+
+  pub interpolation-holds : (b : Bounds) (a : Along) → refusalOf p (interpolationCauses b a) ≡ 0 → Interpolation b a
+  interpolation-holds b a e = interpolation-parts b a (not-refused p _ (interpolation-numbered b a) e)
+
+  -- calibration alone
+  pub record Calibration (b : Bounds) (s : Samples) : Type 0 where
+    pub line : Clear p (lineCauses b (s .line))
+    pub samples : Clear p (pointsWithinCauses (s .at) (b .calls))
+    pub measures : Clear p (measuresCauses (s .dist) (s .numbers) (s .at .lat .n))
+
+  calibration-parts : (b : Bounds) (s : Samples) → Clear p (calibrationCauses b s) → Calibration b s
+  unfolding calibrationCauses
+  calibration-parts b s h = let at = clear-at p _ h in record { line = at 0; samples = at 1; measures = at 2 }
+
+  calibration-numbered : (b : Bounds) (s : Samples) → T (numbered (calibrationCauses b s))
+  unfolding calibrationCauses joined
+  calibration-numbered b s = tt
+
+  pub calibration-holds : (b : Bounds) (s : Samples) → refusalOf p (calibrationCauses b s) ≡ 0 → Calibration b s
+  calibration-holds b s e = calibration-parts b s (not-refused p _ (calibration-numbered b s) e)

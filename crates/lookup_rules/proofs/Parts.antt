@@ -1,0 +1,114 @@
+-- What is so of each part that rows are looked up by where no cause of it is there. A number after `at` is a cause's place in the part's list.
+-- `Rattle.tables.proofs.Facts` has what each kind of fact says, and `counted` for the part's columns and counts.
+use Prim.Native.Nat.{ℕ}
+use mathlib.Core.Bool.{false}
+use lib.ListN.{drop}
+use Rattle.ids.specs.Pool.{idOf}
+use Rattle.ids.specs.Rows.{Ascending}
+use Rattle.columns.specs.declared.order.Key.the-variants.{IdWord, Dated}
+use Rattle.columns.specs.declared.order.Key.the-variants.{Ids as KeyIds}
+use Rattle.tables.specs.Pools.{Pools}
+use Rattle.tables.specs.Refuse.{always}
+use Rattle.tables.specs.declared.bounds.Bounds.{Bounds}
+use Rattle.tables.specs.declared.lent.Aliases.{Aliases}
+use Rattle.tables.specs.declared.lent.Calendars.{Calendars}
+use Rattle.tables.specs.declared.lent.Exceptions.{Exceptions}
+use Rattle.tables.specs.declared.lent.IdRows.{IdRows}
+use Rattle.tables.specs.declared.lent.Lines.{Lines}
+use Rattle.tables.specs.declared.lent.Ranges.{Ranges}
+use Rattle.tables.specs.declared.lent.Trips.{Trips}
+use Rattle.tables.proofs.Passed.{Clear, clear-drop, clear-part}
+use Rattle.tables.proofs.Facts.{Below, below, Dates, dates, Ascend, ascend, by-id, IdsHold, ids-hold}
+use Rattle.lookup_rules.specs.Parts.{idRowsCauses, tripNamesCauses, aliasesCauses, linesCauses, calendarsCauses, rangesCauses, exceptionsCauses}
+
+module _ (p : Pools) where
+  module _ (b : Bounds) (i : IdRows) (most records : ℕ) (h : Clear p (idRowsCauses b i most records)) where
+    at-id-rows : (k : ℕ) → Clear p (drop k (idRowsCauses b i most records))
+    at-id-rows = clear-drop p (idRowsCauses b i most records) h
+
+    pub row-ids : IdsHold p (i .id) always false (i .row .n) (b .id)
+    row-ids = ids-hold p _ _ _ _ _ (clear-part p (idRowsCauses b i most records) h 0 4)
+
+    pub row-ids-ascend : Ascending (idOf (p .bytes) (p .words) (i .id)) (i .row .n)
+    row-ids-ascend = by-id p _ _ (at-id-rows 6 .0)
+
+    pub rows-below : Below p (i .row) always (i .row .n) records
+    rows-below = below p _ _ _ _ (at-id-rows 4 .0) (at-id-rows 7 .0)
+
+  module _ (b : Bounds) (t : Trips) (h : Clear p (tripNamesCauses b t)) where
+    pub trip-feeds : IdsHold p (t .feed) always false (t .first .n) (b .id)
+    trip-feeds = ids-hold p _ _ _ _ _ (clear-part p (tripNamesCauses b t) h 0 4)
+
+    pub trip-services : IdsHold p (t .service) always false (t .first .n) (b .id)
+    trip-services = ids-hold p _ _ _ _ _ (clear-part p (tripNamesCauses b t) h 4 4)
+
+  module _ (b : Bounds) (a : Aliases) (h : Clear p (aliasesCauses b a)) where
+    at-aliases : (k : ℕ) → Clear p (drop k (aliasesCauses b a))
+    at-aliases = clear-drop p (aliasesCauses b a) h
+
+    pub alias-ids : IdsHold p (a .id) always false (a .id .starts .n) (b .id)
+    alias-ids = ids-hold p _ _ _ _ _ (clear-part p (aliasesCauses b a) h 0 4)
+
+    pub alias-trips : IdsHold p (a .trip) always false (a .id .starts .n) (b .id)
+    alias-trips = ids-hold p _ _ _ _ _ (clear-part p (aliasesCauses b a) h 4 4)
+
+    pub alias-ids-ascend : Ascending (idOf (p .bytes) (p .words) (a .id)) (a .id .starts .n)
+    alias-ids-ascend = by-id p _ _ (at-aliases 9 .0)
+
+  module _ (b : Bounds) (l : Lines) (trips : ℕ) (h : Clear p (linesCauses b l trips)) where
+    at-lines : (k : ℕ) → Clear p (drop k (linesCauses b l trips))
+    at-lines = clear-drop p (linesCauses b l trips) h
+
+    pub line-tokens : IdsHold p (l .token) always false (l .trip .n) (b .id)
+    line-tokens = ids-hold p _ _ _ _ _ (clear-part p (linesCauses b l trips) h 0 4)
+
+    pub lines-ascend : Ascend p (IdWord (l .token) (l .trip)) (l .trip .n)
+    lines-ascend = ascend p _ _ (at-lines 6 .0)
+
+    pub line-trips-below : Below p (l .trip) always (l .trip .n) trips
+    line-trips-below = below p _ _ _ _ (at-lines 4 .0) (at-lines 7 .0)
+
+  module _ (b : Bounds) (c : Calendars) (h : Clear p (calendarsCauses b c)) where
+    at-calendars : (k : ℕ) → Clear p (drop k (calendarsCauses b c))
+    at-calendars = clear-drop p (calendarsCauses b c) h
+
+    pub calendar-feeds : IdsHold p (c .feed) always false (c .feed .starts .n) (b .id)
+    calendar-feeds = ids-hold p _ _ _ _ _ (clear-part p (calendarsCauses b c) h 0 4)
+
+    pub calendar-feeds-ascend : Ascending (idOf (p .bytes) (p .words) (c .feed)) (c .feed .starts .n)
+    calendar-feeds-ascend = by-id p _ _ (at-calendars 5 .0)
+
+  module _ (b : Bounds) (g : Ranges) (h : Clear p (rangesCauses b g)) where
+    at-ranges : (k : ℕ) → Clear p (drop k (rangesCauses b g))
+    at-ranges = clear-drop p (rangesCauses b g) h
+
+    pub range-feeds : IdsHold p (g .feed) always false (g .first .n) (b .id)
+    range-feeds = ids-hold p _ _ _ _ _ (clear-part p (rangesCauses b g) h 0 4)
+
+    pub range-services : IdsHold p (g .service) always false (g .first .n) (b .id)
+    range-services = ids-hold p _ _ _ _ _ (clear-part p (rangesCauses b g) h 4 4)
+
+    pub ranges-ascend : Ascend p (KeyIds (g .feed) (g .service)) (g .first .n)
+    ranges-ascend = ascend p _ _ (at-ranges 12 .0)
+
+    pub range-firsts : Dates p (g .first) (g .first .n)
+    range-firsts = dates p _ _ (at-ranges 8 .0) (at-ranges 13 .0)
+
+    pub range-lasts : Dates p (g .last) (g .first .n)
+    range-lasts = dates p _ _ (at-ranges 9 .0) (at-ranges 14 .0)
+
+  module _ (b : Bounds) (e : Exceptions) (h : Clear p (exceptionsCauses b e)) where
+    at-exceptions : (k : ℕ) → Clear p (drop k (exceptionsCauses b e))
+    at-exceptions = clear-drop p (exceptionsCauses b e) h
+
+    pub exception-feeds : IdsHold p (e .feed) always false (e .date .n) (b .id)
+    exception-feeds = ids-hold p _ _ _ _ _ (clear-part p (exceptionsCauses b e) h 0 4)
+
+    pub exception-services : IdsHold p (e .service) always false (e .date .n) (b .id)
+    exception-services = ids-hold p _ _ _ _ _ (clear-part p (exceptionsCauses b e) h 4 4)
+
+    pub exceptions-ascend : Ascend p (Dated (e .feed) (e .service) (e .date) (e .removed)) (e .date .n)
+    exceptions-ascend = ascend p _ _ (at-exceptions 11 .0)
+
+    pub exception-dates : Dates p (e .date) (e .date .n)
+    exception-dates = dates p _ _ (at-exceptions 8 .0) (at-exceptions 12 .0)

@@ -1,0 +1,172 @@
+// The rules of ids with rows, the names of trips, aliases, lines, calendars, ranges and exceptions.
+use columns::Key;
+use ids::Span;
+use tables::Aliases;
+use tables::Bounds;
+use tables::Calendars;
+use tables::Exceptions;
+use tables::IdRows;
+use tables::Lines;
+use tables::Mark;
+use tables::Pool;
+use tables::Ranges;
+use tables::Rule;
+use tables::Test;
+use tables::Trips;
+ghost use mathlib.Core.Path.{_≡_};
+ghost use Rattle.tables.specs.Refuse.{causesIn};
+ghost use Rattle.lookup_rules.specs.Parts.{idRowsCauses, tripNamesCauses, aliasesCauses, linesCauses, calendarsCauses, rangesCauses, exceptionsCauses};
+
+// Each row has a value.
+const ALL: Mark = Mark {
+    all: true,
+    flags: Span { at: 0, n: 0 },
+};
+
+// Ids that ascend, each with the row of one of `records`; no more than `most`.
+pub fn id_rows(b: Bounds, i: IdRows, most: u32, records: u32) -> [Rule; 9]
+    ensures { λ r. ⌜ causesIn r ≡ idRowsCauses b i most records ⌝ }
+{
+    let id = i.id;
+    let row = i.row;
+    let n = row.n;
+    [
+        Rule::Names(id, ALL, false, n, b.id),
+        Rule::One(1, Test::Column(Pool::Words, row, n)),
+        Rule::One(2, Test::Over(n, most)),
+        Rule::One(4, Test::Unsorted(Key::Id(id), n)),
+        Rule::One(5, Test::Reaches(row, ALL, records as u64)),
+        Rule::Nothing,
+        Rule::Nothing,
+        Rule::Nothing,
+        Rule::Nothing,
+    ]
+}
+
+// The trips' feeds and services, and whether they run by frequency.
+pub fn trip_names(b: Bounds, t: Trips) -> [Rule; 9]
+    ensures { λ r. ⌜ causesIn r ≡ tripNamesCauses b t ⌝ }
+{
+    let feed = t.feed;
+    let service = t.service;
+    let frequency = t.frequency;
+    let n = t.first.n;
+    [
+        Rule::Names(feed, ALL, false, n, b.id),
+        Rule::Names(service, ALL, false, n, b.id),
+        Rule::One(1, Test::Column(Pool::Bytes, frequency, n)),
+        Rule::Nothing,
+        Rule::Nothing,
+        Rule::Nothing,
+        Rule::Nothing,
+        Rule::Nothing,
+        Rule::Nothing,
+    ]
+}
+
+// The aliases.
+pub fn aliases(b: Bounds, a: Aliases) -> [Rule; 9]
+    ensures { λ r. ⌜ causesIn r ≡ aliasesCauses b a ⌝ }
+{
+    let id = a.id;
+    let trip = a.trip;
+    let n = id.starts.n;
+    [
+        Rule::Names(id, ALL, false, n, b.id),
+        Rule::Names(trip, ALL, false, n, b.id),
+        Rule::One(2, Test::Over(n, b.others)),
+        Rule::One(4, Test::Unsorted(Key::Id(id), n)),
+        Rule::Nothing,
+        Rule::Nothing,
+        Rule::Nothing,
+        Rule::Nothing,
+        Rule::Nothing,
+    ]
+}
+
+// The line entries, of so many trips.
+pub fn lines(b: Bounds, l: Lines, trips: u32) -> [Rule; 9]
+    ensures { λ r. ⌜ causesIn r ≡ linesCauses b l trips ⌝ }
+{
+    let token = l.token;
+    let trip = l.trip;
+    let n = trip.n;
+    [
+        Rule::Names(token, ALL, false, n, b.id),
+        Rule::One(1, Test::Column(Pool::Words, trip, n)),
+        Rule::One(2, Test::Over(n, b.others)),
+        Rule::One(4, Test::Unsorted(Key::IdWord(token, trip), n)),
+        Rule::One(5, Test::Reaches(trip, ALL, trips as u64)),
+        Rule::Nothing,
+        Rule::Nothing,
+        Rule::Nothing,
+        Rule::Nothing,
+    ]
+}
+
+// The feeds that have a calendar.
+pub fn calendars(b: Bounds, c: Calendars) -> [Rule; 9]
+    ensures { λ r. ⌜ causesIn r ≡ calendarsCauses b c ⌝ }
+{
+    let feed = c.feed;
+    let n = feed.starts.n;
+    [
+        Rule::Names(feed, ALL, false, n, b.id),
+        Rule::One(2, Test::Over(n, b.others)),
+        Rule::One(4, Test::Unsorted(Key::Id(feed), n)),
+        Rule::Nothing,
+        Rule::Nothing,
+        Rule::Nothing,
+        Rule::Nothing,
+        Rule::Nothing,
+        Rule::Nothing,
+    ]
+}
+
+// The ranges of services.
+pub fn ranges(b: Bounds, g: Ranges) -> [Rule; 9]
+    ensures { λ r. ⌜ causesIn r ≡ rangesCauses b g ⌝ }
+{
+    let feed = g.feed;
+    let service = g.service;
+    let first = g.first;
+    let last = g.last;
+    let weekdays = g.weekdays;
+    let n = first.n;
+    [
+        Rule::Names(feed, ALL, false, n, b.id),
+        Rule::Names(service, ALL, false, n, b.id),
+        Rule::One(1, Test::Column(Pool::Words, first, n)),
+        Rule::One(1, Test::Column(Pool::Words, last, n)),
+        Rule::One(1, Test::Column(Pool::Bytes, weekdays, n)),
+        Rule::One(2, Test::Over(n, b.others)),
+        Rule::One(4, Test::Unsorted(Key::Ids(feed, service), n)),
+        Rule::One(10, Test::NoDate(first)),
+        Rule::One(10, Test::NoDate(last)),
+    ]
+}
+
+// The exceptions of services.
+pub fn exceptions(b: Bounds, e: Exceptions) -> [Rule; 9]
+    ensures { λ r. ⌜ causesIn r ≡ exceptionsCauses b e ⌝ }
+{
+    let feed = e.feed;
+    let service = e.service;
+    let date = e.date;
+    let removed = e.removed;
+    let n = date.n;
+    [
+        Rule::Names(feed, ALL, false, n, b.id),
+        Rule::Names(service, ALL, false, n, b.id),
+        Rule::One(1, Test::Column(Pool::Words, date, n)),
+        Rule::One(1, Test::Column(Pool::Bytes, removed, n)),
+        Rule::One(2, Test::Over(n, b.others)),
+        Rule::One(
+            4,
+            Test::Unsorted(Key::Dated(feed, service, date, removed), n),
+        ),
+        Rule::One(10, Test::NoDate(date)),
+        Rule::Nothing,
+        Rule::Nothing,
+    ]
+}

@@ -1,0 +1,2 @@
+-- `Parts`: the causes of each part of the schedule.
+pub mod Parts

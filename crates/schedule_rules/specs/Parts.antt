@@ -1,0 +1,67 @@
+-- The causes of each part of the schedule: a refusal's number, and the fault that it is given for. A table has as many rows as the column that `n` is taken of.
+use Prim.Native.Nat.{ℕ}
+use mathlib.Core.Bool.{true, false}
+use mathlib.Core.List.{List, [], _∷_, _++_}
+use Rattle.tables.specs.Refuse.{Cause, always, whereSet, cause, idCauses}
+use Rattle.tables.specs.declared.bounds.Bounds.{Bounds}
+use Rattle.tables.specs.declared.cause.Pool.the-variants.{Bytes, Words, Reals, Dists}
+use Rattle.tables.specs.declared.cause.Test.the-variants.{Column, Over, Reaches, OffGlobe, EndsPast, NotFinite}
+use Rattle.tables.specs.declared.lent.StopTimes.{StopTimes}
+use Rattle.tables.specs.declared.lent.Stops.{Stops}
+use Rattle.tables.specs.declared.lent.Trips.{Trips}
+
+-- the positions of stops
+abbrev pub positionsCauses : Bounds → Stops → List Cause
+positionsCauses b s =
+    cause 1 (Column Reals (s .lat) (s .lat .n))
+    ∷ cause 1 (Column Reals (s .lon) (s .lat .n))
+    ∷ cause 1 (Column Bytes (s .positioned) (s .lat .n))
+    ∷ cause 2 (Over (s .lat .n) (b .stops))
+    ∷ cause 3 (OffGlobe (s .lat) (s .lon) (whereSet (s .positioned))) ∷ []
+
+-- the ids of stops, of which the raw one may be empty
+abbrev pub stopNamesCauses : Bounds → Stops → List Cause
+stopNamesCauses b s =
+    idCauses (s .own) always false (s .lat .n) (b .id)
+    ++ (idCauses (s .raw) always true (s .lat .n) (b .id))
+
+-- the trips' rows among so many stop times
+abbrev pub tripRowsCauses : Bounds → Trips → ℕ → List Cause
+tripRowsCauses b t rows =
+    cause 1 (Column Words (t .first) (t .first .n))
+    ∷ cause 1 (Column Words (t .count) (t .first .n))
+    ∷ cause 2 (Over (t .first .n) (b .trips))
+    ∷ cause 5 (EndsPast (t .first) (t .count) rows) ∷ []
+
+-- the trips' shapes, of so many
+abbrev pub tripShapeCauses : Trips → ℕ → List Cause
+tripShapeCauses t shapes =
+    cause 1 (Column Words (t .shape) (t .first .n))
+    ∷ cause 1 (Column Bytes (t .shaped) (t .first .n))
+    ∷ cause 5 (Reaches (t .shape) (whereSet (t .shaped)) shapes) ∷ []
+
+-- the stops of stop times, of so many, and their distances
+abbrev pub callsCauses : Bounds → StopTimes → ℕ → List Cause
+callsCauses b c stops =
+    cause 1 (Column Words (c .stop) (c .stop .n))
+    ∷ cause 1 (Column Dists (c .dist) (c .stop .n))
+    ∷ cause 1 (Column Bytes (c .measured) (c .stop .n))
+    ∷ cause 2 (Over (c .stop .n) (b .calls))
+    ∷ cause 5 (Reaches (c .stop) always stops)
+    ∷ cause 8 (NotFinite (c .dist) (whereSet (c .measured))) ∷ []
+
+-- the departures of stop times, alone
+abbrev pub departuresCauses : Bounds → StopTimes → List Cause
+departuresCauses b c =
+    cause 1 (Column Words (c .departure) (c .departure .n))
+    ∷ cause 2 (Over (c .departure .n) (b .calls))
+    ∷ cause 6 (Reaches (c .departure) always 604800) ∷ []
+
+-- the sequences, arrivals and departures of stop times
+abbrev pub callTimesCauses : StopTimes → List Cause
+callTimesCauses c =
+    cause 1 (Column Words (c .sequence) (c .stop .n))
+    ∷ cause 1 (Column Words (c .arrival) (c .stop .n))
+    ∷ cause 1 (Column Words (c .departure) (c .stop .n))
+    ∷ cause 6 (Reaches (c .arrival) always 604800)
+    ∷ cause 6 (Reaches (c .departure) always 604800) ∷ []

@@ -1,0 +1,2 @@
+-- `Parts`: the causes of shapes, points and measures.
+pub mod Parts

@@ -1,0 +1,78 @@
+-- `test_checks::cases` is safe: the pools keep their lengths.
+use Prim.Native.Nat.{_<_, _-_, _^_}
+use mathlib.Core.Path.{_≡_}
+use lib.ListN.{length}
+use borrow.Author.Needs.{needs}
+use Rattle.test_checks.proofs.cases.Statement.{statement}
+use Rattle.test_checks.proofs.cases.Tie as tie
+
+abbrev Inv-loop : tie.InvT-loop
+Inv-loop bytes₀ words₀ times₀ reals₀ dists₀ clean text r₀ i₀ bytes words times reals dists r i =
+    (length text < 2 ^ 64)
+    × (length bytes ≡ length bytes₀)
+    × (length words ≡ length words₀)
+    × (length times ≡ length times₀)
+    × (length reals ≡ length reals₀)
+    × (length dists ≡ length dists₀)
+
+abbrev μ-loop : tie.MeasureT-loop
+μ-loop bytes₀ words₀ times₀ reals₀ dists₀ clean text r₀ i₀ bytes words times reals dists r i = length text - i
+
+new-requires : tie.Need-new-requires Inv-loop μ-loop
+new-requires c κs = search needs
+
+loop-holds : tie.Need-loop-holds Inv-loop μ-loop
+loop-holds c = search needs
+
+shared-slice-read-case-step : tie.Need-shared-slice-read-case-step Inv-loop μ-loop
+shared-slice-read-case-step c = search needs
+
+case-step-requires : tie.Need-case-step-requires Inv-loop μ-loop
+case-step-requires c κs = search needs
+
+add-i : tie.Need-add-i Inv-loop μ-loop
+add-i c = search needs
+
+loop-less : tie.Need-loop-less Inv-loop μ-loop
+loop-less c = search needs
+
+loop-again : tie.Need-loop-again Inv-loop μ-loop
+loop-again c = search needs
+
+same-length : tie.Need-same-length Inv-loop μ-loop
+same-length c = search needs
+
+same-length-2 : tie.Need-same-length-2 Inv-loop μ-loop
+same-length-2 c = search needs
+
+same-length-3 : tie.Need-same-length-3 Inv-loop μ-loop
+same-length-3 c = search needs
+
+same-length-4 : tie.Need-same-length-4 Inv-loop μ-loop
+same-length-4 c = search needs
+
+same-length-5 : tie.Need-same-length-5 Inv-loop μ-loop
+same-length-5 c = search needs
+
+returns : tie.Need-returns Inv-loop μ-loop
+returns c = search needs
+
+pub cases-spec : {M : Type 1} → statement M
+cases-spec =
+    tie.close
+    (tie.spec
+    Inv-loop
+    μ-loop
+    new-requires
+    loop-holds
+    shared-slice-read-case-step
+    case-step-requires
+    add-i
+    loop-less
+    loop-again
+    same-length
+    same-length-2
+    same-length-3
+    same-length-4
+    same-length-5
+    returns)
