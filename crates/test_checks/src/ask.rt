@@ -10,7 +10,7 @@ use tables::words_of;
 
 // Prints the first refusal of the operation that the script's word says, or 0 where it has none. Operation 0 is
 // the bound of stop times, which no world here reaches.
-pub fn answer(
+pub(crate) fn answer(
     bytes: &[u8],
     words: &[u32],
     times: &[i64],

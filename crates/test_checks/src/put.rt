@@ -2,7 +2,7 @@
 use crate::script::Script;
 
 // Puts a number at the next place, if the pool has that place and the number is small enough.
-pub fn one(
+pub(crate) fn one(
     bytes: &mut [u8],
     words: &mut [u32],
     times: &mut [i64],
@@ -18,7 +18,7 @@ pub fn one(
 }
 
 // As many numbers more as the script's word says, each the last one plus the step.
-pub fn more(words: &mut [u32], read: Script) -> Script {
+pub(crate) fn more(words: &mut [u32], read: Script) -> Script {
     if read.pool != b'w' {
         return read.fails(b"not among the words");
     }
@@ -36,7 +36,7 @@ pub fn more(words: &mut [u32], read: Script) -> Script {
 }
 
 // As many ids as the script's word says.
-pub fn ids(bytes: &mut [u8], read: Script) -> Script {
+pub(crate) fn ids(bytes: &mut [u8], read: Script) -> Script {
     if read.pool != b'b' {
         return read.fails(b"not among the bytes");
     }

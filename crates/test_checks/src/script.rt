@@ -18,7 +18,7 @@ pub struct Script {
 }
 
 impl Script {
-    pub fn new() -> Self {
+    pub(crate) fn new() -> Self {
         Script {
             letter: 0,
             number: 0,
@@ -32,7 +32,7 @@ impl Script {
     }
 
     // One byte more of a word.
-    pub fn spelled(mut self, b: u8) -> Self {
+    pub(crate) fn spelled(mut self, b: u8) -> Self {
         if self.letter == 0 {
             self.letter = b;
             return self;
@@ -55,38 +55,38 @@ impl Script {
         self
     }
 
-    pub fn next_word(mut self) -> Self {
+    pub(crate) fn next_word(mut self) -> Self {
         self.letter = 0;
         self.number = 0;
         self
     }
 
-    pub fn next_line(mut self) -> Self {
+    pub(crate) fn next_line(mut self) -> Self {
         self.line = std::num::wrapping_add_u64(self.line, 1);
         self
     }
 
-    pub fn placed(mut self) -> Self {
+    pub(crate) fn placed(mut self) -> Self {
         self.pool = self.letter;
         self.at = self.number as usize;
         self.step = 0;
         self
     }
 
-    pub fn stepped(mut self) -> Self {
+    pub(crate) fn stepped(mut self) -> Self {
         self.step = self.number;
         self
     }
 
     // After a number was put.
-    pub fn gone_on(mut self, n: u64) -> Self {
+    pub(crate) fn gone_on(mut self, n: u64) -> Self {
         self.last = n;
         self.at = std::num::wrapping_add_usize(self.at, 1);
         self
     }
 
     // Says what is wrong, and where.
-    pub fn fails(mut self, what: &[u8]) -> Self {
+    pub(crate) fn fails(mut self, what: &[u8]) -> Self {
         io::write_all(STDERR_FILENO, b"line ");
         io::print_decimal(STDERR_FILENO, self.line);
         io::write_all(STDERR_FILENO, b": ");
