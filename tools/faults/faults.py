@@ -1,6 +1,6 @@
 """Single faults, and pairs of faults of different numbers."""
 
-from operations import OPERATIONS, borrowers, lent, sees
+from operations import OPERATIONS, by
 from world import TABLES, f32, f64, kinds, rows
 
 # What makes a table's rows ascend, its first key's columns first.
@@ -62,13 +62,9 @@ class Fault:
         self.change = change
 
 
-def by(number, parts):
-    """The operations that give a refusal for a fault in these columns."""
-    return [o for o in OPERATIONS if sees(o, number, parts)]
-
-
-def in_parts(number, parts, change):
-    return Fault(number, by(number, parts), change)
+def fault(number, change, *tables):
+    """A fault that shows where all of these tables are lent."""
+    return Fault(number, by(number, *tables), change)
 
 
 def more_rows(w, table, n):
@@ -79,16 +75,12 @@ def more_rows(w, table, n):
 def table_faults(w):
     """One column that runs past its pool (1), and a row more than the bound (2), for each table."""
     for table in TABLES:
-        # a column that every borrower of the table has; of the stop times there is none
-        column = {"stops": "lat", "trips": "first", "times": "departure"}.get(table, kinds(table)[-1][0])
-        key = w.parts(table, column)[0]
-        yield in_parts(1, [(table, column)], {w.at(key): 4294967295})
-        if table == "times":
-            yield in_parts(1, [(table, "stop")], {w.at((table, "stop", "")): 4294967295})
+        key = w.parts(table, kinds(table)[-1][0])[0]
+        yield fault(1, {w.at(key): 4294967295}, table)
         if table in ROWS:
             change = more_rows(w, table, rows(table) + 1)
             change[w.bound(ROWS[table])] = rows(table)
-            yield Fault(2, borrowers(table), change)
+            yield fault(2, change, table)
 
 
 def id_faults(w):
@@ -97,13 +89,12 @@ def id_faults(w):
     A change of row 0 makes its id less, one of the last row makes it greater, so that ids still ascend."""
     for table, column in IDS:
         last = rows(table) - 1
-        part = [(table, column)]
-        yield in_parts(2, part, {w.length(table, column, last): 97})
-        yield in_parts(5, part, {w.start(table, column, 0): w.size["b"]})
-        yield in_parts(7, part, {w.byte(table, column, last, 1): 127})
+        yield fault(2, {w.length(table, column, last): 97}, table)
+        yield fault(5, {w.start(table, column, 0): w.size["b"]}, table)
+        yield fault(7, {w.byte(table, column, last, 1): 127}, table)
         if column != "raw":
             start = w.start(table, column, 0)
-            yield in_parts(7, part, {start: w.cells[start], w.length(table, column, 0): 0})
+            yield fault(7, {start: w.cells[start], w.length(table, column, 0): 0}, table)
 
 
 def same_key(w, table, row, other):
@@ -118,36 +109,31 @@ def same_key(w, table, row, other):
     return change
 
 
-def key_parts(table):
-    return [(table, column) for column in KEYS[table]]
-
-
 def row_faults(w):
     """The faults of rows that are no ids."""
     last = 3
     for table in POSITIONS:
         for column, least in (("lat", 90.00000000000001), ("lon", -180.00000000000003)):
-            yield in_parts(3, [(table, "lat"), (table, "lon")], {w.cell(table, column, last): f64(least)})
+            yield fault(3, {w.cell(table, column, last): f64(least)}, table)
     for table in KEYS:
-        yield in_parts(4, key_parts(table), same_key(w, table, 2, 1))
+        yield fault(4, same_key(w, table, 2, 1), table)
     for (table, column), other in INDICES.items():
-        yield in_parts(5, [(table, column)], {w.cell(table, column, last): rows(other)})
+        yield fault(5, {w.cell(table, column, last): rows(other)}, table, other)
     for table, other in RANGES.items():
-        change = {w.cell(table, "first", last): rows(other), w.cell(table, "count", last): 1}
-        yield in_parts(5, [(table, "first"), (table, "count")], change)
-    yield in_parts(2, [("shapes", "count")], {w.cell("shapes", "count", 1): 8193})
-    for part in SECONDS:
-        yield in_parts(6, [part], {w.cell(*part, last): 604800})
-    for part in MOMENTS:
-        yield in_parts(6, [part], {w.cell(*part, rows(part[0]) - 1): 4102444800})
-    for part in OFFSETS:
-        yield in_parts(6, [part], {w.cell(*part, 0): -50401})
-    for part in DISTANCES:
-        yield in_parts(8, [part], {w.cell(*part, last): f32(float("inf"))})
-    for part in NUMBERS:
-        yield in_parts(8, [part], {w.cell(*part, last): f64(float("nan"))})
-    for part in DATES:
-        yield in_parts(10, [part], {w.cell(*part, rows(part[0]) - 1): 20990229})
+        yield fault(5, {w.cell(table, "first", last): rows(other), w.cell(table, "count", last): 1}, table, other)
+    yield fault(2, {w.cell("shapes", "count", 1): 8193}, "shapes")
+    for table, column in SECONDS:
+        yield fault(6, {w.cell(table, column, last): 604800}, table)
+    for table, column in MOMENTS:
+        yield fault(6, {w.cell(table, column, rows(table) - 1): 4102444800}, table)
+    for table, column in OFFSETS:
+        yield fault(6, {w.cell(table, column, 0): -50401}, table)
+    for table, column in DISTANCES:
+        yield fault(8, {w.cell(table, column, last): f32(float("inf"))}, table)
+    for table, column in NUMBERS:
+        yield fault(8, {w.cell(table, column, last): f64(float("nan"))}, table)
+    for table, column in DATES:
+        yield fault(10, {w.cell(table, column, rows(table) - 1): 20990229}, table)
 
 
 def faults(w):
@@ -178,13 +164,13 @@ def sizes(w):
     for key in w.spans:
         table, column, _ = key
         n = w.cells[w.count(key)]
-        lent_it = by(1, [(table, column)])
-        # a table of which an operation has one column only has nothing to differ from
-        unequal = [o for o in lent_it if len(lent(o, table)) > 1 or w.columns[table, column][0] == "i"]
-        for change, seen in (
+        seen = by(1, table)
+        # a table of a single column has nothing to differ from; ids are two columns
+        unequal = seen if len(kinds(table)) > 1 or w.columns[table, column][0] == "i" else []
+        for change, seen_by in (
             ({w.count(key): n - 1}, unequal),
             ({w.count(key): n + 1}, unequal),
-            ({w.at(key): w.size[w.pool_of(key)] - n + 1}, lent_it),
-            ({w.at(key): 4294967295}, lent_it),
+            ({w.at(key): w.size[w.pool_of(key)] - n + 1}, seen),
+            ({w.at(key): 4294967295}, seen),
         ):
-            yield change, {o: 1 if o in seen else 0 for o in OPERATIONS}
+            yield change, {o: 1 if o in seen_by else 0 for o in OPERATIONS}

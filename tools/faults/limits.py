@@ -1,10 +1,10 @@
 """Each limit of document 01: at it, one below, one above; and what is no fault."""
 
 from faults import (
-    DATES, DISTANCES, IDS, INDICES, KEYS, MOMENTS, NUMBERS, OFFSETS, POSITIONS, RANGES, ROWS, SECONDS, by, key_parts,
-    more_rows, same_key,
+    DATES, DISTANCES, IDS, INDICES, KEYS, MOMENTS, NUMBERS, OFFSETS, POSITIONS, RANGES, ROWS, SECONDS, more_rows,
+    same_key,
 )
-from operations import OPERATIONS, borrowers, lent
+from operations import OPERATIONS, by
 from world import BOUNDS, ONE_ROW, POOLS, TABLES, f32, f64, kinds, rows
 
 INFINITY = float("inf")
@@ -34,13 +34,13 @@ def none(change):
     return case(change, 0, [])
 
 
-def values(w, part, row, good, bad, number):
-    """Numbers of a column that are no fault, and some that are."""
+def values(w, part, row, good, bad, number, *others):
+    """Numbers of a column that are no fault, and some that are where the other tables are lent too."""
     place = w.cell(*part, row)
     for n in good:
         yield none({place: n})
     for n in bad:
-        yield case({place: n}, number, by(number, [part]))
+        yield case({place: n}, number, by(number, part[0], *others))
 
 
 # Refusal 2.
@@ -73,7 +73,7 @@ def counts(w):
         yield none(large(w, table, most - 1))
         yield none(large(w, table, most))
         if ROWS[table] != "calls":
-            yield case(large(w, table, most + 1), 2, borrowers(table))
+            yield case(large(w, table, most + 1), 2, by(2, table))
 
 
 def no_rows(w):
@@ -84,11 +84,11 @@ def no_rows(w):
     for table in TABLES:
         if table in ONE_ROW:
             for n in (0, 2):
-                yield case(more_rows(w, table, n), 1, borrowers(table))
+                yield case(more_rows(w, table, n), 1, by(1, table))
             continue
-        pointers = [[part] for part, other in INDICES.items() if other == table]
-        pointers += [[(t, "first"), (t, "count")] for t, other in RANGES.items() if other == table]
-        seen = [o for o in OPERATIONS for parts in pointers if o in by(5, parts)]
+        pointers = [t for (t, _), other in INDICES.items() if other == table]
+        pointers += [t for t, other in RANGES.items() if other == table]
+        seen = [o for t in pointers for o in by(5, t, table)]
         change = more_rows(w, table, 0)
         yield case(change, 5, seen)
         whole.update(change)
@@ -101,17 +101,17 @@ def no_rows(w):
 def smaller_bounds(w):
     """Every bound is a parameter. The tables have 4 rows, shapes at most 2 points, ids 3 bytes."""
     for name in BOUNDS:
-        has = {o: 4 for o in OPERATIONS for t in ROWS if ROWS[t] == name and lent(o, t)}
+        has = {o: 4 for t in ROWS if ROWS[t] == name for o in by(2, t)}
         if name == "points":
-            has.update({o: 2 for o in by(2, [("shapes", "count")])})
+            has.update({o: 2 for o in by(2, "shapes")})
         if name == "id":
-            has.update({o: 3 for o in OPERATIONS for part in IDS if o in by(2, [part])})
+            has.update({o: 3 for table, _ in IDS for o in by(2, table)})
         for most in range(1, 6):
             yield case({w.bound(name): most}, 2, [o for o in has if has[o] > most])
     for table in ROWS:
         bound = w.bound(ROWS[table])
         yield none({bound: 5, **more_rows(w, table, 5)})
-        yield case({bound: 4, **more_rows(w, table, 5)}, 2, borrowers(table))
+        yield case({bound: 4, **more_rows(w, table, 5)}, 2, by(2, table))
 
 
 def points(w):
@@ -125,7 +125,7 @@ def points(w):
         for n in (0, 8191, 8192):
             yield none({**many, first: 0, count: n})
         for n in (8193, 100000, LARGEST):
-            yield case({**many, first: 0, count: n}, 2, by(2, [("shapes", "count")]))
+            yield case({**many, first: 0, count: n}, 2, by(2, "shapes"))
 
 
 # Ids: refusals 2, 5 and 7.
@@ -134,29 +134,28 @@ def points(w):
 def ids(w):
     for table, column in IDS:
         last = rows(table) - 1
-        part = [(table, column)]
         start, length = w.start(table, column, last), w.length(table, column, last)
         for n in (1, 95, 96):
             yield none({start: w.long, length: n})
-        yield case({start: w.long, length: 97}, 2, by(2, part))
-        yield case({length: LARGEST}, 2, by(2, part))
+        yield case({start: w.long, length: 97}, 2, by(2, table))
+        yield case({length: LARGEST}, 2, by(2, table))
         # row 0 is the least: an id of the pool's last byte, one of a byte more, one past 2^32
         start, length = w.start(table, column, 0), w.length(table, column, 0)
         yield none({start: w.size["b"] - 1, length: 1})
         for at, n in ((w.size["b"] - 1, 2), (w.size["b"], 1), (LARGEST, 1), (LARGEST, 96)):
-            yield case({start: at, length: n}, 5, by(5, part))
+            yield case({start: at, length: n}, 5, by(5, table))
         if column == "raw":
             yield none({length: 0})
         else:
-            yield case({length: 0}, 7, by(7, part))
-            yield case({start: w.size["b"], length: 0}, 7, by(7, part))
+            yield case({length: 0}, 7, by(7, table))
+            yield case({start: w.size["b"], length: 0}, 7, by(7, table))
         for k in range(3):
             yield none({w.byte(table, column, 0, k): 32})
             yield none({w.byte(table, column, last, k): 126})
             for byte in (0, 31):
-                yield case({w.byte(table, column, 0, k): byte}, 7, by(7, part))
+                yield case({w.byte(table, column, 0, k): byte}, 7, by(7, table))
             for byte in (127, 128, 255):
-                yield case({w.byte(table, column, last, k): byte}, 7, by(7, part))
+                yield case({w.byte(table, column, last, k): byte}, 7, by(7, table))
 
 
 # Refusal 3.
@@ -165,13 +164,12 @@ def ids(w):
 def positions(w):
     for table in POSITIONS:
         for column, most in (("lat", 90.0), ("lon", 180.0)):
-            both = [(table, "lat"), (table, "lon")]
             for row in range(4):
                 place = w.cell(table, column, row)
                 for x in (f64(most), f64(-most), f64(most) - 1, f64(-most) - 1, f64(0.0), f64(-0.0), 1):
                     yield none({place: x})
                 for x in (f64(most) + 1, f64(-most) + 1, f64(INFINITY), f64(-INFINITY), NAN64, NAN64 + 2**63):
-                    yield case({place: x}, 3, by(3, both))
+                    yield case({place: x}, 3, by(3, table))
 
 
 # Refusal 4.
@@ -179,7 +177,7 @@ def positions(w):
 
 def orders(w):
     for table in KEYS:
-        seen = by(4, key_parts(table))
+        seen = by(4, table)
         for row in range(1, 4):
             yield case(same_key(w, table, row, row - 1), 4, seen)  # equal
         yield case(same_key(w, table, 3, 0), 4, seen)  # descending
@@ -192,7 +190,7 @@ def first_ids(w):
     for table, keys in KEYS.items():
         if table == "updates":
             continue
-        seen = by(4, key_parts(table))
+        seen = by(4, table)
         column = keys[0]
         cut = {w.start(table, column, 0): w.cells[w.start(table, column, 1)]}
         yield none({**cut, w.length(table, column, 0): 2})
@@ -215,14 +213,14 @@ def later_keys(w):
                 change[place(table, column, 2)] = w.cells[place(table, column, 1)]
         return change
 
-    lines = by(4, key_parts("lines"))
+    lines = by(4, "lines")
     for trips, number in (((1, 2), 0), ((1, 1), 4), ((2, 1), 4), ((0, 3), 0)):
         change = {w.cell("lines", "trip", 1 + k): n for k, n in enumerate(trips)}
         yield case({**same("lines", ["token"]), **change}, number, lines)
         yield none(change)
     # a service that descends, where the feeds are equal and where they ascend
     for table in ("ranges", "exceptions"):
-        seen = by(4, key_parts(table))
+        seen = by(4, table)
         back = {
             w.start(table, "service", 2): w.cells[w.start(table, "service", 0)],
             w.length(table, "service", 2): 3,
@@ -232,7 +230,7 @@ def later_keys(w):
         yield none(back)
         if table == "ranges":
             yield case(same(table, ["feed", "service"]), 4, seen)
-    seen = by(4, key_parts("exceptions"))
+    seen = by(4, "exceptions")
     names = same("exceptions", ["feed", "service"])
     dates = w.cell("exceptions", "date", 1), w.cell("exceptions", "date", 2)
     kind = w.cell("exceptions", "removed", 1), w.cell("exceptions", "removed", 2)
@@ -269,13 +267,12 @@ def indices(w):
     for part, other in INDICES.items():
         for row in range(4):
             n = rows(other)
-            yield from values(w, part, row, (0, n - 1), (n, n + 1, 65536, LARGEST), 5)
+            yield from values(w, part, row, (0, n - 1), (n, n + 1, 65536, LARGEST), 5, other)
 
 
 def ranges(w):
     """A first row and a count: at the end of the rows, one past it, past 2^32. An empty range may begin at the end."""
     for table, other in RANGES.items():
-        parts = [(table, "first"), (table, "count")]
         n = rows(other)
         for row in range(4):
             first, count = w.cell(table, "first", row), w.cell(table, "count", row)
@@ -283,10 +280,10 @@ def ranges(w):
                 yield none({first: a, count: c})
             for a, c in ((0, n + 1), (n, 1), (n - 1, 2), (n + 1, 0), (LARGEST, 0), (LARGEST, 1), (LARGEST, 5),
                          (4294967290, 8)):
-                yield case({first: a, count: c}, 5, by(5, parts))
+                yield case({first: a, count: c}, 5, by(5, table, other))
     for a, c in ((1, LARGEST), (5, LARGEST), (LARGEST, LARGEST)):
         change = {w.cell("trips", "first", 3): a, w.cell("trips", "count", 3): c}
-        yield case(change, 5, by(5, [("trips", "first"), ("trips", "count")]))
+        yield case(change, 5, by(5, "trips", "times"))
 
 
 # Refusals 6, 8 and 10.
@@ -332,7 +329,7 @@ def missing(w):
     nan = {"lat": f64(91.0), "lon": NAN64}
     for column in nan:
         yield from flagged(w, "positioned", ("stops", column), {w.cell("stops", column, 2): nan[column]}, 3)
-    yield from flagged(w, "shaped", ("trips", "shape"), {w.cell("trips", "shape", 2): LARGEST}, 5)
+    yield from flagged(w, "shaped", ("trips", "shape"), {w.cell("trips", "shape", 2): LARGEST}, 5, "shapes")
     yield from flagged(w, "measured", ("times", "dist"), {w.cell("times", "dist", 2): NAN32}, 8)
     yield from flagged(w, "arrives", ("updates", "arrival"), {w.cell("updates", "arrival", 2): -1}, 6)
     yield from flagged(w, "departs", ("updates", "departure"), {w.cell("updates", "departure", 2): 2**62}, 6)
@@ -357,10 +354,10 @@ def missing(w):
             yield none({w.cell(*part, 0): n})
 
 
-def flagged(w, flag, part, change, number):
+def flagged(w, flag, part, change, number, *others):
     table = part[0]
     place = w.cell(table, flag, rows(table) // 2)
-    seen = by(number, [part, (table, flag)])
+    seen = by(number, table, *others)
     yield none({place: 0})
     yield none({place: 0, **change})
     for n in (1, 2, 128, 255):

@@ -3,7 +3,7 @@
 use Prim.Native.Nat.{ℕ, _<_}
 use mathlib.Core.Bool.{false}
 use lib.IntN.{pos, negsuc}
-use lib.ListN.{drop}
+use lib.ListN.{drop, length}
 use Rattle.ids.specs.Pool.{cellOf}
 use Rattle.tables.specs.Pools.{Pools}
 use Rattle.tables.specs.Refuse.{always, whereSet}
@@ -14,7 +14,7 @@ use Rattle.tables.specs.declared.lent.Sailing.{Sailing}
 use Rattle.tables.specs.declared.lent.Service.{Service}
 use Rattle.tables.specs.declared.lent.Updates.{Updates}
 use Rattle.tables.proofs.Passed.{Clear, clear-drop, clear-part}
-use Rattle.tables.proofs.Facts.{Between, moments, offsets, Dates, dates, by-number, IdsHold, ids-hold}
+use Rattle.tables.proofs.Facts.{Between, moments, offsets, Dates, dates, by-number, IdsHold, ids-hold, Sized, counted}
 use Rattle.asked_rules.specs.Parts.{updatesCauses, arrivalsCauses, updateDeparturesCauses, sailingCauses, journeyCauses, serviceCauses, legAskedCauses}
 
 module _ (p : Pools) where
@@ -70,6 +70,15 @@ module _ (p : Pools) where
 
     pub journey-route : IdsHold p (j .route) (whereSet (j .routed)) false 1 (b .id)
     journey-route = ids-hold p _ _ _ _ _ (clear-part p (journeyCauses b j) h 4 4)
+
+    pub journey-departure : Sized (length (p .times)) (j .departure) 1
+    journey-departure = counted p (drop 9 (journeyCauses b j)) (at-journey 9) .0
+
+    pub journey-departs : Sized (length (p .bytes)) (j .departs) 1
+    journey-departs = counted p (drop 10 (journeyCauses b j)) (at-journey 10) .0
+
+    pub journey-offset : Sized (length (p .times)) (j .offset) 1
+    journey-offset = counted p (drop 11 (journeyCauses b j)) (at-journey 11) .0
 
     pub journey-departure-between : Between p (j .departure) (whereSet (j .departs)) 1 (pos 0) (pos 4102444799)
     journey-departure-between = moments p _ _ _ (at-journey 9 .0) (at-journey 12 .0)

@@ -1,4 +1,4 @@
--- What each operation may take for granted where nothing is refused: no cause of any part is there. `Parts` of `schedule_rules`, `shape_rules`, `lookup_rules`, `asked_rules` says what that gives of each.
+-- What each operation may take for granted where nothing is refused: no cause of any table is there. `Parts` of `schedule_rules`, `shape_rules`, `lookup_rules`, `asked_rules` says what that gives of each.
 use mathlib.Core.Path.{_≡_}
 use lib.Dec.{T}
 use Rattle.tables.specs.Pools.{Pools}
@@ -11,9 +11,9 @@ use Rattle.tables.specs.declared.lent.Samples.{Samples}
 use Rattle.tables.specs.declared.lent.Service.{Service}
 use Rattle.tables.specs.declared.lent.Tables.{Tables}
 use Rattle.tables.proofs.Passed.{numbered, Clear, clear-at, not-refused}
-use Rattle.schedule_rules.specs.Parts.{callTimesCauses, callsCauses, departuresCauses, positionsCauses, stopNamesCauses, tripRowsCauses, tripShapeCauses}
+use Rattle.schedule_rules.specs.Parts.{callTimesCauses, callsCauses, placingCauses, stopsCauses, tripsCauses}
 use Rattle.shape_rules.specs.Parts.{lineCauses, measuresCauses, pointsCauses, pointsWithinCauses, shapesCauses}
-use Rattle.lookup_rules.specs.Parts.{aliasesCauses, calendarsCauses, exceptionsCauses, idRowsCauses, linesCauses, rangesCauses, tripNamesCauses}
+use Rattle.lookup_rules.specs.Parts.{aliasesCauses, calendarsCauses, exceptionsCauses, idRowsCauses, linesCauses, rangesCauses}
 use Rattle.asked_rules.specs.Parts.{arrivalsCauses, journeyCauses, legAskedCauses, sailingCauses, serviceCauses, updateDeparturesCauses, updatesCauses}
 use Rattle.checks.specs.Operations.{calendarTablesCauses, tripLookupCauses, geometryCauses, legCauses, serviceDayCauses, matchingCauses, estimateCauses, interpolationCauses, calibrationCauses}
 
@@ -30,27 +30,26 @@ module _ (p : Pools) where
 
   -- what a trip is looked up by
   pub record Lookup (b : Bounds) (t : Tables) : Type 0 where
-    pub names : Clear p (tripNamesCauses b (t .trips))
     pub trip-ids : Clear p (idRowsCauses b (t .tripkeys) (b .trips) (t .trips .first .n))
     pub aliases : Clear p (aliasesCauses b (t .aliases))
     pub lines : Clear p (linesCauses b (t .lines) (t .trips .first .n))
 
   lookup-parts : (b : Bounds) (t : Tables) → Clear p (tripLookupCauses b t) → Lookup b t
   unfolding tripLookupCauses
-  lookup-parts b t h = let at = clear-at p _ h in record { names = at 0; trip-ids = at 1; aliases = at 2; lines = at 3 }
+  lookup-parts b t h = let at = clear-at p _ h in record { trip-ids = at 0; aliases = at 1; lines = at 2 }
 
   -- projection and backfill
   pub record Geometry (b : Bounds) (t : Tables) : Type 0 where
-    pub positions : Clear p (positionsCauses b (t .stops))
-    pub trip-rows : Clear p (tripRowsCauses b (t .trips) (t .times .stop .n))
-    pub trip-shape : Clear p (tripShapeCauses (t .trips) (t .shapes .first .n))
-    pub calls : Clear p (callsCauses b (t .times) (t .stops .lat .n))
+    pub stops : Clear p (stopsCauses b (t .stops))
+    pub trips : Clear p (tripsCauses b (t .trips) (t .times .stop .n))
+    pub calls : Clear p (callsCauses b (t .times))
+    pub placing : Clear p (placingCauses (t .trips) (t .times) (t .shapes .first .n) (t .stops .lat .n))
     pub shapes : Clear p (shapesCauses b (t .shapes) (t .points .lat .n))
     pub points : Clear p (pointsCauses (t .points))
 
   geometry-parts : (b : Bounds) (t : Tables) → Clear p (geometryCauses b t) → Geometry b t
   unfolding geometryCauses
-  geometry-parts b t h = let at = clear-at p _ h in record { positions = at 0; trip-rows = at 1; trip-shape = at 2; calls = at 3; shapes = at 4; points = at 5 }
+  geometry-parts b t h = let at = clear-at p _ h in record { stops = at 0; trips = at 1; calls = at 2; placing = at 3; shapes = at 4; points = at 5 }
 
   geometry-numbered : (b : Bounds) (t : Tables) → T (numbered (geometryCauses b t))
   unfolding geometryCauses joined
@@ -94,15 +93,16 @@ module _ (p : Pools) where
 
   -- trip matching
   pub record Matching (b : Bounds) (t : Tables) (j : Journey) : Type 0 where
-    pub trip-rows : Clear p (tripRowsCauses b (t .trips) (t .times .departure .n))
-    pub departures : Clear p (departuresCauses b (t .times))
+    pub trips : Clear p (tripsCauses b (t .trips) (t .times .stop .n))
+    pub calls : Clear p (callsCauses b (t .times))
+    pub call-times : Clear p (callTimesCauses (t .times))
     pub lookup : Lookup b t
     pub calendar : Calendar b t
     pub asked : Clear p (journeyCauses b j)
 
   matching-parts : (b : Bounds) (t : Tables) (j : Journey) → Clear p (matchingCauses b t j) → Matching b t j
   unfolding matchingCauses
-  matching-parts b t j h = let at = clear-at p _ h in record { trip-rows = at 0; departures = at 1; lookup = lookup-parts b t (at 2); calendar = calendar-parts b t (at 3); asked = at 4 }
+  matching-parts b t j h = let at = clear-at p _ h in record { trips = at 0; calls = at 1; call-times = at 2; lookup = lookup-parts b t (at 3); calendar = calendar-parts b t (at 4); asked = at 5 }
 
   matching-numbered : (b : Bounds) (t : Tables) (j : Journey) → T (numbered (matchingCauses b t j))
   unfolding matchingCauses calendarTablesCauses tripLookupCauses joined
@@ -115,7 +115,6 @@ module _ (p : Pools) where
   pub record Estimate (b : Bounds) (t : Tables) : Type 0 where
     pub geometry : Geometry b t
     pub call-times : Clear p (callTimesCauses (t .times))
-    pub stop-names : Clear p (stopNamesCauses b (t .stops))
     pub stop-ids : Clear p (idRowsCauses b (t .stopkeys) (b .stops) (t .stops .lat .n))
     pub lookup : Lookup b t
     pub calendar : Calendar b t
@@ -126,7 +125,7 @@ module _ (p : Pools) where
 
   estimate-parts : (b : Bounds) (t : Tables) → Clear p (estimateCauses b t) → Estimate b t
   unfolding estimateCauses
-  estimate-parts b t h = let at = clear-at p _ h in record { geometry = geometry-parts b t (at 0); call-times = at 1; stop-names = at 2; stop-ids = at 3; lookup = lookup-parts b t (at 4); calendar = calendar-parts b t (at 5); updates = at 6; arrivals = at 7; departures = at 8; sailing = at 9 }
+  estimate-parts b t h = let at = clear-at p _ h in record { geometry = geometry-parts b t (at 0); call-times = at 1; stop-ids = at 2; lookup = lookup-parts b t (at 3); calendar = calendar-parts b t (at 4); updates = at 5; arrivals = at 6; departures = at 7; sailing = at 8 }
 
   estimate-numbered : (b : Bounds) (t : Tables) → T (numbered (estimateCauses b t))
   unfolding estimateCauses calendarTablesCauses geometryCauses tripLookupCauses joined

@@ -1,4 +1,5 @@
--- The causes of each operation of document 01: those of every part that is lent to it.
+-- The causes of each operation of document 01, over all of each table that is lent to it. An index into a table that is not lent is not tested, and a fault that the operation
+-- has no number for is none.
 use mathlib.Core.List.{List, [], _∷_}
 use Rattle.tables.specs.Refuse.{Cause, joined}
 use Rattle.tables.specs.declared.bounds.Bounds.{Bounds}
@@ -8,9 +9,9 @@ use Rattle.tables.specs.declared.lent.LegAsked.{LegAsked}
 use Rattle.tables.specs.declared.lent.Samples.{Samples}
 use Rattle.tables.specs.declared.lent.Service.{Service}
 use Rattle.tables.specs.declared.lent.Tables.{Tables}
-use Rattle.schedule_rules.specs.Parts.{callTimesCauses, callsCauses, departuresCauses, positionsCauses, stopNamesCauses, tripRowsCauses, tripShapeCauses}
+use Rattle.schedule_rules.specs.Parts.{callTimesCauses, callsCauses, placingCauses, stopsCauses, tripsCauses}
 use Rattle.shape_rules.specs.Parts.{lineCauses, measuresCauses, pointsCauses, pointsWithinCauses, shapesCauses}
-use Rattle.lookup_rules.specs.Parts.{aliasesCauses, calendarsCauses, exceptionsCauses, idRowsCauses, linesCauses, rangesCauses, tripNamesCauses}
+use Rattle.lookup_rules.specs.Parts.{aliasesCauses, calendarsCauses, exceptionsCauses, idRowsCauses, linesCauses, rangesCauses}
 use Rattle.asked_rules.specs.Parts.{arrivalsCauses, journeyCauses, legAskedCauses, sailingCauses, serviceCauses, updateDeparturesCauses, updatesCauses}
 
 -- the calendars, ranges and exceptions
@@ -21,23 +22,22 @@ calendarTablesCauses b t =
     ∷ rangesCauses b (t .ranges)
     ∷ exceptionsCauses b (t .exceptions) ∷ [])
 
--- what a trip is looked up by: feeds and services, trip ids, aliases, lines
+-- what a trip is looked up by: trip ids, aliases, lines
 unfoldable pub tripLookupCauses : Bounds → Tables → List Cause
 tripLookupCauses b t =
     joined
-    (tripNamesCauses b (t .trips)
-    ∷ idRowsCauses b (t .tripkeys) (b .trips) (t .trips .first .n)
+    (idRowsCauses b (t .tripkeys) (b .trips) (t .trips .first .n)
     ∷ aliasesCauses b (t .aliases)
     ∷ linesCauses b (t .lines) (t .trips .first .n) ∷ [])
 
--- projection and backfill: the positions of stops, the rows and shapes of trips, the stops and distances of stop times, shapes and points
+-- projection and backfill: stops, trips, stop times, shapes and points
 unfoldable pub geometryCauses : Bounds → Tables → List Cause
 geometryCauses b t =
     joined
-    (positionsCauses b (t .stops)
-    ∷ tripRowsCauses b (t .trips) (t .times .stop .n)
-    ∷ tripShapeCauses (t .trips) (t .shapes .first .n)
-    ∷ callsCauses b (t .times) (t .stops .lat .n)
+    (stopsCauses b (t .stops)
+    ∷ tripsCauses b (t .trips) (t .times .stop .n)
+    ∷ callsCauses b (t .times)
+    ∷ placingCauses (t .trips) (t .times) (t .shapes .first .n) (t .stops .lat .n)
     ∷ shapesCauses b (t .shapes) (t .points .lat .n)
     ∷ pointsCauses (t .points) ∷ [])
 
@@ -53,12 +53,13 @@ legCauses b t l =
 unfoldable pub serviceDayCauses : Bounds → Tables → Service → List Cause
 serviceDayCauses b t s = joined (calendarTablesCauses b t ∷ serviceCauses b s ∷ [])
 
--- trip matching: the rows of trips, departures, what a trip is looked up by, the calendar tables, and the journey asked of
+-- trip matching: trips, stop times, what a trip is looked up by, the calendar tables, and the journey asked of
 unfoldable pub matchingCauses : Bounds → Tables → Journey → List Cause
 matchingCauses b t j =
     joined
-    (tripRowsCauses b (t .trips) (t .times .departure .n)
-    ∷ departuresCauses b (t .times)
+    (tripsCauses b (t .trips) (t .times .stop .n)
+    ∷ callsCauses b (t .times)
+    ∷ callTimesCauses (t .times)
     ∷ tripLookupCauses b t
     ∷ calendarTablesCauses b t
     ∷ journeyCauses b j ∷ [])
@@ -69,7 +70,6 @@ estimateCauses b t =
     joined
     (geometryCauses b t
     ∷ callTimesCauses (t .times)
-    ∷ stopNamesCauses b (t .stops)
     ∷ idRowsCauses b (t .stopkeys) (b .stops) (t .stops .lat .n)
     ∷ tripLookupCauses b t
     ∷ calendarTablesCauses b t

@@ -1,4 +1,4 @@
-// Each operation's check: the least refusal over the rules of every part that is lent to it.
+// Each operation's check: the least refusal over the rules of every table that is lent to it.
 use tables::Along;
 use tables::Bounds;
 use tables::Journey;
@@ -36,7 +36,7 @@ fn in_calendar_tables(
     least(bytes, words, times, reals, dists, best2, r3)
 }
 
-// What a trip is looked up by: feeds and services, trip ids, aliases, lines.
+// What a trip is looked up by: trip ids, aliases, lines.
 fn in_trip_lookup(
     bytes: &[u8],
     words: &[u32],
@@ -54,18 +54,15 @@ fn in_trip_lookup(
     let aliases = t.aliases;
     let lines = t.lines;
     let n = trips.first.n;
-    let r1 = lookup_rules::trip_names(b, trips);
+    let r1 = lookup_rules::id_rows(b, tripkeys, b.trips, n);
     let best1 = least(bytes, words, times, reals, dists, best, r1);
-    let r2 = lookup_rules::id_rows(b, tripkeys, b.trips, n);
+    let r2 = lookup_rules::aliases(b, aliases);
     let best2 = least(bytes, words, times, reals, dists, best1, r2);
-    let r3 = lookup_rules::aliases(b, aliases);
-    let best3 = least(bytes, words, times, reals, dists, best2, r3);
-    let r4 = lookup_rules::lines(b, lines, n);
-    least(bytes, words, times, reals, dists, best3, r4)
+    let r3 = lookup_rules::lines(b, lines, n);
+    least(bytes, words, times, reals, dists, best2, r3)
 }
 
-// The first refusal of projection and backfill, or 0: the positions of stops, the rows and shapes of trips, the
-// stops and distances of stop times, shapes and points.
+// The first refusal of projection and backfill, or 0: stops, trips, stop times, shapes and points.
 pub fn check_geometry(
     bytes: &[u8],
     words: &[u32],
@@ -82,13 +79,13 @@ pub fn check_geometry(
     let calls = t.times;
     let shapes = t.shapes;
     let points = t.points;
-    let r1 = schedule_rules::positions(b, stops);
+    let r1 = schedule_rules::stops(b, stops);
     let best1 = least(bytes, words, times, reals, dists, 0, r1);
-    let r2 = schedule_rules::trip_rows(b, trips, calls.stop.n);
+    let r2 = schedule_rules::trips(b, trips, calls.stop.n);
     let best2 = least(bytes, words, times, reals, dists, best1, r2);
-    let r3 = schedule_rules::trip_shape(trips, shapes.first.n);
+    let r3 = schedule_rules::calls(b, calls);
     let best3 = least(bytes, words, times, reals, dists, best2, r3);
-    let r4 = schedule_rules::calls(b, calls, stops.lat.n);
+    let r4 = schedule_rules::placing(trips, calls, shapes.first.n, stops.lat.n);
     let best4 = least(bytes, words, times, reals, dists, best3, r4);
     let r5 = shape_rules::shapes(b, shapes, points.lat.n);
     let best5 = least(bytes, words, times, reals, dists, best4, r5);
@@ -136,8 +133,8 @@ pub fn check_service(
     least(bytes, words, times, reals, dists, best1, r2)
 }
 
-// The first refusal of trip matching, or 0: the rows of trips, departures, what a trip is looked up by, the calendar
-// tables, and the journey asked of.
+// The first refusal of trip matching, or 0: trips, stop times, what a trip is looked up by, the calendar tables, and
+// the journey asked of.
 pub fn check_matching(
     bytes: &[u8],
     words: &[u32],
@@ -152,14 +149,17 @@ pub fn check_matching(
 {
     let trips = t.trips;
     let calls = t.times;
-    let r1 = schedule_rules::trip_rows(b, trips, calls.departure.n);
+    let rows = calls.stop.n;
+    let r1 = schedule_rules::trips(b, trips, rows);
     let best1 = least(bytes, words, times, reals, dists, 0, r1);
-    let r2 = schedule_rules::departures(b, calls);
+    let r2 = schedule_rules::calls(b, calls);
     let best2 = least(bytes, words, times, reals, dists, best1, r2);
-    let best3 = in_trip_lookup(bytes, words, times, reals, dists, best2, b, t);
-    let best4 = in_calendar_tables(bytes, words, times, reals, dists, best3, b, t);
-    let r5 = asked_rules::journey(b, j);
-    least(bytes, words, times, reals, dists, best4, r5)
+    let r3 = schedule_rules::call_times(calls);
+    let best3 = least(bytes, words, times, reals, dists, best2, r3);
+    let best4 = in_trip_lookup(bytes, words, times, reals, dists, best3, b, t);
+    let best5 = in_calendar_tables(bytes, words, times, reals, dists, best4, b, t);
+    let r6 = asked_rules::journey(b, j);
+    least(bytes, words, times, reals, dists, best5, r6)
 }
 
 // The first refusal of the estimate, or 0: every table.
@@ -182,20 +182,18 @@ pub fn check_estimate(
     let best1 = check_geometry(bytes, words, times, reals, dists, b, t);
     let r2 = schedule_rules::call_times(calls);
     let best2 = least(bytes, words, times, reals, dists, best1, r2);
-    let r3 = schedule_rules::stop_names(b, stops);
+    let r3 = lookup_rules::id_rows(b, stopkeys, b.stops, stops.lat.n);
     let best3 = least(bytes, words, times, reals, dists, best2, r3);
-    let r4 = lookup_rules::id_rows(b, stopkeys, b.stops, stops.lat.n);
-    let best4 = least(bytes, words, times, reals, dists, best3, r4);
-    let best5 = in_trip_lookup(bytes, words, times, reals, dists, best4, b, t);
-    let best6 = in_calendar_tables(bytes, words, times, reals, dists, best5, b, t);
-    let r7 = asked_rules::updates(b, updates);
+    let best4 = in_trip_lookup(bytes, words, times, reals, dists, best3, b, t);
+    let best5 = in_calendar_tables(bytes, words, times, reals, dists, best4, b, t);
+    let r6 = asked_rules::updates(b, updates);
+    let best6 = least(bytes, words, times, reals, dists, best5, r6);
+    let r7 = asked_rules::arrivals(updates);
     let best7 = least(bytes, words, times, reals, dists, best6, r7);
-    let r8 = asked_rules::arrivals(updates);
+    let r8 = asked_rules::update_departures(updates);
     let best8 = least(bytes, words, times, reals, dists, best7, r8);
-    let r9 = asked_rules::update_departures(updates);
-    let best9 = least(bytes, words, times, reals, dists, best8, r9);
-    let r10 = asked_rules::sailing(b, sailing);
-    least(bytes, words, times, reals, dists, best9, r10)
+    let r9 = asked_rules::sailing(b, sailing);
+    least(bytes, words, times, reals, dists, best8, r9)
 }
 
 // The first refusal of interpolation alone, or 0: the line, the ends of a leg, distances and numbers.

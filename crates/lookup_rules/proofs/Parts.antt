@@ -16,10 +16,9 @@ use Rattle.tables.specs.declared.lent.Exceptions.{Exceptions}
 use Rattle.tables.specs.declared.lent.IdRows.{IdRows}
 use Rattle.tables.specs.declared.lent.Lines.{Lines}
 use Rattle.tables.specs.declared.lent.Ranges.{Ranges}
-use Rattle.tables.specs.declared.lent.Trips.{Trips}
 use Rattle.tables.proofs.Passed.{Clear, clear-drop, clear-part}
 use Rattle.tables.proofs.Facts.{Below, below, Dates, dates, Ascend, ascend, by-id, IdsHold, ids-hold}
-use Rattle.lookup_rules.specs.Parts.{idRowsCauses, tripNamesCauses, aliasesCauses, linesCauses, calendarsCauses, rangesCauses, exceptionsCauses}
+use Rattle.lookup_rules.specs.Parts.{idRowsCauses, aliasesCauses, linesCauses, calendarsCauses, rangesCauses, exceptionsCauses}
 
 module _ (p : Pools) where
   module _ (b : Bounds) (i : IdRows) (most records : ℕ) (h : Clear p (idRowsCauses b i most records)) where
@@ -34,13 +33,6 @@ module _ (p : Pools) where
 
     pub rows-below : Below p (i .row) always (i .row .n) records
     rows-below = below p _ _ _ _ (at-id-rows 4 .0) (at-id-rows 7 .0)
-
-  module _ (b : Bounds) (t : Trips) (h : Clear p (tripNamesCauses b t)) where
-    pub trip-feeds : IdsHold p (t .feed) always false (t .first .n) (b .id)
-    trip-feeds = ids-hold p _ _ _ _ _ (clear-part p (tripNamesCauses b t) h 0 4)
-
-    pub trip-services : IdsHold p (t .service) always false (t .first .n) (b .id)
-    trip-services = ids-hold p _ _ _ _ _ (clear-part p (tripNamesCauses b t) h 4 4)
 
   module _ (b : Bounds) (a : Aliases) (h : Clear p (aliasesCauses b a)) where
     at-aliases : (k : ℕ) → Clear p (drop k (aliasesCauses b a))

@@ -14,7 +14,6 @@ use Rattle.tables.specs.declared.lent.Exceptions.{Exceptions}
 use Rattle.tables.specs.declared.lent.IdRows.{IdRows}
 use Rattle.tables.specs.declared.lent.Lines.{Lines}
 use Rattle.tables.specs.declared.lent.Ranges.{Ranges}
-use Rattle.tables.specs.declared.lent.Trips.{Trips}
 
 -- ids that ascend, each with the row of one of `records`; no more than `most`
 abbrev pub idRowsCauses : Bounds → IdRows → ℕ → ℕ → List Cause
@@ -24,13 +23,6 @@ idRowsCauses b i most records =
     ∷ cause 2 (Over (i .row .n) most)
     ∷ cause 4 (Unsorted (Id (i .id)) (i .row .n))
     ∷ cause 5 (Reaches (i .row) always records) ∷ [])
-
--- the trips' feeds and services, and whether they run by frequency
-abbrev pub tripNamesCauses : Bounds → Trips → List Cause
-tripNamesCauses b t =
-    idCauses (t .feed) always false (t .first .n) (b .id)
-    ++ (idCauses (t .service) always false (t .first .n) (b .id)
-    ++ (cause 1 (Column Bytes (t .frequency) (t .first .n)) ∷ []))
 
 -- the aliases
 abbrev pub aliasesCauses : Bounds → Aliases → List Cause

@@ -1,4 +1,4 @@
-// The rules of what trips, stops and services are looked up by: ids, names, aliases, lines, and the calendar tables.
+// The rules of what trips, stops and services are looked up by: ids, aliases, lines, and the calendar tables.
 mod rules; // rules.rt: the rules of each part
 
 pub use rules::aliases;
@@ -7,4 +7,3 @@ pub use rules::exceptions;
 pub use rules::id_rows;
 pub use rules::lines;
 pub use rules::ranges;
-pub use rules::trip_names;

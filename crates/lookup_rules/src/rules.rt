@@ -1,4 +1,4 @@
-// The rules of ids with rows, the names of trips, aliases, lines, calendars, ranges and exceptions.
+// The rules of ids with rows, aliases, lines, calendars, ranges and exceptions.
 use columns::Key;
 use ids::Span;
 use tables::Aliases;
@@ -12,10 +12,9 @@ use tables::Pool;
 use tables::Ranges;
 use tables::Rule;
 use tables::Test;
-use tables::Trips;
 ghost use mathlib.Core.Path.{_≡_};
 ghost use Rattle.tables.specs.Refuse.{causesIn};
-ghost use Rattle.lookup_rules.specs.Parts.{idRowsCauses, tripNamesCauses, aliasesCauses, linesCauses, calendarsCauses, rangesCauses, exceptionsCauses};
+ghost use Rattle.lookup_rules.specs.Parts.{idRowsCauses, aliasesCauses, linesCauses, calendarsCauses, rangesCauses, exceptionsCauses};
 
 // Each row has a value.
 const ALL: Mark = Mark {
@@ -36,27 +35,6 @@ pub fn id_rows(b: Bounds, i: IdRows, most: u32, records: u32) -> [Rule; 9]
         Rule::One(2, Test::Over(n, most)),
         Rule::One(4, Test::Unsorted(Key::Id(id), n)),
         Rule::One(5, Test::Reaches(row, ALL, records as u64)),
-        Rule::Nothing,
-        Rule::Nothing,
-        Rule::Nothing,
-        Rule::Nothing,
-    ]
-}
-
-// The trips' feeds and services, and whether they run by frequency.
-pub fn trip_names(b: Bounds, t: Trips) -> [Rule; 9]
-    ensures { λ r. ⌜ causesIn r ≡ tripNamesCauses b t ⌝ }
-{
-    let feed = t.feed;
-    let service = t.service;
-    let frequency = t.frequency;
-    let n = t.first.n;
-    [
-        Rule::Names(feed, ALL, false, n, b.id),
-        Rule::Names(service, ALL, false, n, b.id),
-        Rule::One(1, Test::Column(Pool::Bytes, frequency, n)),
-        Rule::Nothing,
-        Rule::Nothing,
         Rule::Nothing,
         Rule::Nothing,
         Rule::Nothing,

@@ -11,60 +11,58 @@ use Rattle.tables.specs.declared.lent.Stops.{Stops}
 use Rattle.tables.specs.declared.lent.Trips.{Trips}
 use Rattle.tables.proofs.Passed.{Clear, clear-drop, clear-part}
 use Rattle.tables.proofs.Facts.{Below, below, Finite, finite, OnGlobe, on-the-globe, RangesWithin, ranges-within, IdsHold, ids-hold}
-use Rattle.schedule_rules.specs.Parts.{positionsCauses, stopNamesCauses, tripRowsCauses, tripShapeCauses, callsCauses, departuresCauses, callTimesCauses}
+use Rattle.schedule_rules.specs.Parts.{stopsCauses, tripsCauses, callsCauses, placingCauses, callTimesCauses}
 
 module _ (p : Pools) where
-  module _ (b : Bounds) (s : Stops) (h : Clear p (positionsCauses b s)) where
-    at-positions : (k : ℕ) → Clear p (drop k (positionsCauses b s))
-    at-positions = clear-drop p (positionsCauses b s) h
+  module _ (b : Bounds) (s : Stops) (h : Clear p (stopsCauses b s)) where
+    at-stops : (k : ℕ) → Clear p (drop k (stopsCauses b s))
+    at-stops = clear-drop p (stopsCauses b s) h
 
-    pub positions-on-globe : OnGlobe p (s .lat) (s .lon) (whereSet (s .positioned)) (s .lat .n)
-    positions-on-globe = on-the-globe p _ _ _ _ (at-positions 0 .0) (at-positions 1 .0) (at-positions 4 .0)
+    pub stops-on-globe : OnGlobe p (s .lat) (s .lon) (whereSet (s .positioned)) (s .lat .n)
+    stops-on-globe = on-the-globe p _ _ _ _ (at-stops 0 .0) (at-stops 1 .0) (at-stops 4 .0)
 
-  module _ (b : Bounds) (s : Stops) (h : Clear p (stopNamesCauses b s)) where
     pub own-ids : IdsHold p (s .own) always false (s .lat .n) (b .id)
-    own-ids = ids-hold p _ _ _ _ _ (clear-part p (stopNamesCauses b s) h 0 4)
+    own-ids = ids-hold p _ _ _ _ _ (clear-part p (stopsCauses b s) h 5 4)
 
     pub raw-ids : IdsHold p (s .raw) always true (s .lat .n) (b .id)
-    raw-ids = ids-hold p _ _ _ _ _ (clear-part p (stopNamesCauses b s) h 4 4)
+    raw-ids = ids-hold p _ _ _ _ _ (clear-part p (stopsCauses b s) h 9 4)
 
-  module _ (b : Bounds) (t : Trips) (rows : ℕ) (h : Clear p (tripRowsCauses b t rows)) where
-    at-trip-rows : (k : ℕ) → Clear p (drop k (tripRowsCauses b t rows))
-    at-trip-rows = clear-drop p (tripRowsCauses b t rows) h
+  module _ (b : Bounds) (t : Trips) (rows : ℕ) (h : Clear p (tripsCauses b t rows)) where
+    at-trips : (k : ℕ) → Clear p (drop k (tripsCauses b t rows))
+    at-trips = clear-drop p (tripsCauses b t rows) h
 
     pub trip-rows-within : RangesWithin p (t .first) (t .count) (t .first .n) rows
-    trip-rows-within = ranges-within p _ _ _ _ (at-trip-rows 0 .0) (at-trip-rows 1 .0) (at-trip-rows 3 .0)
+    trip-rows-within = ranges-within p _ _ _ _ (at-trips 0 .0) (at-trips 1 .0) (at-trips 6 .0)
 
-  module _ (t : Trips) (shapes : ℕ) (h : Clear p (tripShapeCauses t shapes)) where
-    at-trip-shape : (k : ℕ) → Clear p (drop k (tripShapeCauses t shapes))
-    at-trip-shape = clear-drop p (tripShapeCauses t shapes) h
+    pub trip-feeds : IdsHold p (t .feed) always false (t .first .n) (b .id)
+    trip-feeds = ids-hold p _ _ _ _ _ (clear-part p (tripsCauses b t rows) h 7 4)
 
-    pub trip-shape-below : Below p (t .shape) (whereSet (t .shaped)) (t .first .n) shapes
-    trip-shape-below = below p _ _ _ _ (at-trip-shape 0 .0) (at-trip-shape 2 .0)
+    pub trip-services : IdsHold p (t .service) always false (t .first .n) (b .id)
+    trip-services = ids-hold p _ _ _ _ _ (clear-part p (tripsCauses b t rows) h 11 4)
 
-  module _ (b : Bounds) (c : StopTimes) (stops : ℕ) (h : Clear p (callsCauses b c stops)) where
-    at-calls : (k : ℕ) → Clear p (drop k (callsCauses b c stops))
-    at-calls = clear-drop p (callsCauses b c stops) h
+  module _ (b : Bounds) (c : StopTimes) (h : Clear p (callsCauses b c)) where
+    at-calls : (k : ℕ) → Clear p (drop k (callsCauses b c))
+    at-calls = clear-drop p (callsCauses b c) h
+
+  module _ (b : Bounds) (t : Trips) (c : StopTimes) (rows shapes stops : ℕ) (g : Clear p (tripsCauses b t rows)) (k : Clear p (callsCauses b c)) (h : Clear p (placingCauses t c shapes stops)) where
+    at-placing : (k : ℕ) → Clear p (drop k (placingCauses t c shapes stops))
+    at-placing = clear-drop p (placingCauses t c shapes stops) h
+
+    pub trip-shapes-below : Below p (t .shape) (whereSet (t .shaped)) (t .first .n) shapes
+    trip-shapes-below = below p _ _ _ _ (at-trips b t rows g 2 .0) (at-placing 0 .0)
 
     pub call-stops-below : Below p (c .stop) always (c .stop .n) stops
-    call-stops-below = below p _ _ _ _ (at-calls 0 .0) (at-calls 4 .0)
+    call-stops-below = below p _ _ _ _ (at-calls b c k 0 .0) (at-placing 1 .0)
 
     pub call-dists-finite : Finite p (c .dist) (whereSet (c .measured)) (c .stop .n)
-    call-dists-finite = finite p _ _ _ (at-calls 1 .0) (at-calls 5 .0)
+    call-dists-finite = finite p _ _ _ (at-calls b c k 4 .0) (at-placing 2 .0)
 
-  module _ (b : Bounds) (c : StopTimes) (h : Clear p (departuresCauses b c)) where
-    at-departures : (k : ℕ) → Clear p (drop k (departuresCauses b c))
-    at-departures = clear-drop p (departuresCauses b c) h
-
-    pub departures-below : Below p (c .departure) always (c .departure .n) 604800
-    departures-below = below p _ _ _ _ (at-departures 0 .0) (at-departures 2 .0)
-
-  module _ (c : StopTimes) (h : Clear p (callTimesCauses c)) where
+  module _ (b : Bounds) (c : StopTimes) (k : Clear p (callsCauses b c)) (h : Clear p (callTimesCauses c)) where
     at-call-times : (k : ℕ) → Clear p (drop k (callTimesCauses c))
     at-call-times = clear-drop p (callTimesCauses c) h
 
     pub call-arrivals-below : Below p (c .arrival) always (c .stop .n) 604800
-    call-arrivals-below = below p _ _ _ _ (at-call-times 1 .0) (at-call-times 3 .0)
+    call-arrivals-below = below p _ _ _ _ (at-calls b c k 2 .0) (at-call-times 0 .0)
 
     pub call-departures-below : Below p (c .departure) always (c .stop .n) 604800
-    call-departures-below = below p _ _ _ _ (at-call-times 2 .0) (at-call-times 4 .0)
+    call-departures-below = below p _ _ _ _ (at-calls b c k 3 .0) (at-call-times 1 .0)

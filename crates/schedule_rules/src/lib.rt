@@ -1,10 +1,8 @@
-// The rules of the schedule: of stops, the rows and shapes of trips, and stop times.
-mod rules; // rules.rt: the rules of each part
+// The rules of the schedule: of stops, trips and stop times.
+mod rules; // rules.rt: the rules of each table
 
 pub use rules::call_times;
 pub use rules::calls;
-pub use rules::departures;
-pub use rules::positions;
-pub use rules::stop_names;
-pub use rules::trip_rows;
-pub use rules::trip_shape;
+pub use rules::placing;
+pub use rules::stops;
+pub use rules::trips;
