@@ -2,7 +2,7 @@
 -- `Rattle.tables.proofs.Facts` has what each kind of fact says, and `counted` for the part's columns and counts.
 use Prim.Native.Nat.{ℕ}
 use mathlib.Core.Bool.{false}
-use lib.ListN.{drop}
+use lib.ListN.{drop, length}
 use Rattle.ids.specs.Pool.{idOf}
 use Rattle.ids.specs.Rows.{Ascending}
 use Rattle.columns.specs.declared.order.Key.the-variants.{IdWord, Dated}
@@ -17,7 +17,7 @@ use Rattle.tables.specs.declared.lent.IdRows.{IdRows}
 use Rattle.tables.specs.declared.lent.Lines.{Lines}
 use Rattle.tables.specs.declared.lent.Ranges.{Ranges}
 use Rattle.tables.proofs.Passed.{Clear, clear-drop, clear-part}
-use Rattle.tables.proofs.Facts.{Below, below, Dates, dates, Ascend, ascend, by-id, IdsHold, ids-hold}
+use Rattle.tables.proofs.Facts.{Below, below, Dates, dates, Ascend, ascend, by-id, IdsHold, ids-hold, Sized, counted}
 use Rattle.lookup_rules.specs.Parts.{idRowsCauses, aliasesCauses, linesCauses, calendarsCauses, rangesCauses, exceptionsCauses}
 
 module _ (p : Pools) where
@@ -101,6 +101,9 @@ module _ (p : Pools) where
 
     pub exceptions-ascend : Ascend p (Dated (e .feed) (e .service) (e .date) (e .removed)) (e .date .n)
     exceptions-ascend = ascend p _ _ (at-exceptions 11 .0)
+
+    pub exception-days : Sized (length (p .words)) (e .date) (e .date .n)
+    exception-days = counted p (drop 8 (exceptionsCauses b e)) (at-exceptions 8) .0
 
     pub exception-dates : Dates p (e .date) (e .date .n)
     exception-dates = dates p _ _ (at-exceptions 8 .0) (at-exceptions 12 .0)

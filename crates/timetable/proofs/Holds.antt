@@ -1,0 +1,115 @@
+-- What the cores may take for granted where nothing is refused. Assumes nothing.
+use Prim.Native.Nat.{ℕ, suc, _+_, _-_, _/_, _%_, _^_, _<_, _≤_}
+use mathlib.Core.Path.{_≡_, refl, sym, subst}
+use mathlib.Core.Bool.{Bool, true, false, not, cond}
+use mathlib.Core.List.{List}
+use native.Mathlib.Omega.{arith}
+use borrow.Author.Tests.{ltb-true, ltb-false}
+use lib.Dec.{T, eqb, ltb, leb→le}
+use lib.IntN.{ℤ, pos, negsuc, _+ℤ_}
+use lib.ListN.{getD, length, length-take}
+use lib.Signed.{leZ}
+use Rattle.ids.specs.Pool.{idOf}
+use Rattle.ids.specs.Rows.{GoodIds}
+use Rattle.ids.specs.declared.pool.Span.{Span}
+use Rattle.ids.proofs.ByteOrder.{clash}
+use Rattle.days.specs.Days.{leap, ordinal}
+use Rattle.days.proofs.Months.{months-bound}
+use Rattle.days.proofs.Years.{years-bound}
+use Rattle.columns.specs.Order.{bitOf}
+use Rattle.columns.specs.Rows.{counts}
+use Rattle.tables.specs.Pools.{Pools, partOf}
+use Rattle.tables.specs.Refuse.{always, whereSet, chartBounds, refusalOf}
+use Rattle.tables.specs.declared.lent.Journey.{Journey}
+use Rattle.tables.specs.declared.lent.Service.{Service}
+use Rattle.tables.specs.declared.lent.Tables.{Tables}
+use Rattle.tables.proofs.Facts.{Sized, Counts, all-count, part-at, good-ids}
+use Rattle.lookup_rules.proofs.Parts.{row-ids, row-ids-ascend, alias-ids, alias-ids-ascend, line-tokens, lines-ascend, calendar-feeds-ascend, ranges-ascend, exceptions-ascend, exception-days, exception-dates}
+use Rattle.asked_rules.proofs.Parts.{journey-departure, journey-departs, journey-offset, journey-departure-between, journey-offset-between}
+use Rattle.checks.specs.Operations.{matchingCauses, serviceDayCauses}
+use Rattle.checks.proofs.Operations.{Calendar, Matching, matching-holds, service-day-holds}
+use Rattle.services.specs.Runs.{Calendared}
+use Rattle.services.proofs.Ascends.{lines-in-order}
+use Rattle.services.proofs.Ascends.{ranges-ascend as by-names, exceptions-ascend as by-day}
+use Rattle.trip_times.specs.Line.{ShortTokens}
+use Rattle.matching.specs.Matching.{Ready}
+use Rattle.matching.specs.Moments.{InReach}
+use Rattle.timetable.specs.Timetable.{namedOf, planOf, timeOf, departsOf, localOf}
+
+-- a moment of document 01 in the local time of an offset
+in-reach : (x y : ℤ) → T (leZ (pos 0) x) → T (leZ x (pos 4102444799)) → T (leZ (negsuc 50399) y) → T (leZ y (pos 50400)) → InReach (x +ℤ y)
+in-reach (pos n) (pos m) a b c d = omega (arith, leb→le n 4102444799 b, leb→le m 50400 d)
+in-reach (pos n) (negsuc m) a b c d = go (ltb n (suc m)) refl where
+  go : (s : Bool) → ltb n (suc m) ≡ s → InReach (pos n +ℤ negsuc m)
+  go true e = rw e (omega (arith, leb→le m 50399 c))
+  go false e = rw e (omega (arith, leb→le n 4102444799 b))
+in-reach (negsuc n) y a b c d = absurd a
+
+-- an ordinal is a word, even of digits that are no date
+pub ordinal-word : (n : ℕ) → n < 2 ^ 32 → ordinal n < 2 ^ 32
+unfolding ordinal
+ordinal-word n h = omega (arith, years-bound (n / 10000), months-bound (leap (n / 10000)) (n / 100 % 100))
+
+-- the first row of a column of one
+first-at : {A : Type 0} (xs : List A) {s : Span} → Sized (length xs) s 1 → (d : A) → getD (partOf xs s) 0 d ≡ getD xs (s .at) d
+first-at xs {s} z d = let e : s .at + 0 ≡ s .at = omega arith in rw e at (part-at xs z d 0 (omega arith))
+
+module _ (p : Pools) (t : Tables) where
+  pub calendared : Calendar p chartBounds t → Calendared (p .bytes) (p .words) (t .calendars) (t .ranges) (t .exceptions)
+  calendared h = record {
+    calendars = calendar-feeds-ascend p chartBounds _ (h .calendars);
+    ranges = by-names (p .bytes) (p .words) _ _ _ (ranges-ascend p chartBounds _ (h .ranges));
+    exceptions =
+        by-day (p .bytes) (p .words) _ _ _ _ _ (exceptions-ascend p chartBounds _ (h .exceptions))
+        (λ k l. rw (part-at (p .words) (exception-days p chartBounds _ (h .exceptions)) 0 k l) at (exception-dates p chartBounds _ (h .exceptions) k l));
+  }
+
+  pub service-ready : (s : Service) → refusalOf p (serviceDayCauses chartBounds t s) ≡ 0 → Calendared (p .bytes) (p .words) (t .calendars) (t .ranges) (t .exceptions)
+  service-ready s e = calendared (service-day-holds p chartBounds t s e .calendar)
+
+  module _ (j : Journey) (e : refusalOf p (matchingCauses chartBounds t j) ≡ 0) where
+    held : Matching p chartBounds t j
+    held = matching-holds p chartBounds t j e
+
+    tokens-short : ShortTokens (p .bytes) (p .words) (planOf t)
+    unfolding idOf
+    tokens-short = record {
+      short = λ k l. simp length-take (omega (arith, line-tokens p chartBounds _ _ (held .lookup .lines) .short k l (all-count p always refl k)));
+    }
+
+    pub ready : Ready (p .bytes) (p .words) (namedOf t) (planOf t)
+    ready =
+        let trips = row-ids p chartBounds _ _ _ (held .lookup .trip-ids) in
+        let names = alias-ids p chartBounds _ (held .lookup .aliases) in
+        record {
+          known = record {
+            trip-ids = subst (GoodIds (idOf (p .bytes) (p .words) (t .tripkeys .id))) (sym (trips .starts .many)) (good-ids p trips refl (omega arith) (row-ids-ascend p chartBounds _ _ _ (held .lookup .trip-ids)));
+            alias-ids = good-ids p names refl (omega arith) (alias-ids-ascend p chartBounds _ (held .lookup .aliases));
+          };
+          planned = record {
+            lines = lines-in-order (p .bytes) (p .words) _ _ _ (lines-ascend p chartBounds _ _ (held .lookup .lines));
+            calendars = calendared (held .calendar);
+          };
+          short = tokens-short;
+        }
+
+    -- where there is a first departure, it counts
+    departing : departsOf (p .bytes) j ≡ true → Counts p (whereSet (j .departs)) 0
+    unfolding departsOf bitOf counts
+    departing f = rw (part-at (p .bytes) (journey-departs p chartBounds j (held .asked)) 0 0 (omega arith)) (go (eqb (getD (p .bytes) (j .departs .at + 0) 0) 0) f) where
+      go : (s : Bool) → not (eqb (cond s 0 1) 0) ≡ true → not s ≡ true
+      go true g = clash (cc)
+      go false g = refl
+
+    -- the first departure, where there is one, is a moment of document 01
+    pub local-in-reach : InReach (localOf (p .bytes) (p .times) j)
+    unfolding localOf
+    local-in-reach = go (departsOf (p .bytes) j) refl where
+      go : (s : Bool) → departsOf (p .bytes) j ≡ s → InReach (cond s (timeOf (p .times) (j .departure) +ℤ timeOf (p .times) (j .offset)) (pos 0))
+      go false f = omega arith
+      go true f =
+          let a = journey-departure-between p chartBounds j (held .asked) 0 (omega arith) (departing f) in
+          let b = journey-offset-between p chartBounds j (held .asked) 0 (omega arith) (all-count p always refl 0) in
+          let x = first-at (p .times) (journey-departure p chartBounds j (held .asked)) (pos 0) in
+          let y = first-at (p .times) (journey-offset p chartBounds j (held .asked)) (pos 0) in
+          in-reach (timeOf (p .times) (j .departure)) (timeOf (p .times) (j .offset)) (rw x at (a .0 .le)) (rw x at (a .1 .le)) (rw y at (b .0 .le)) (rw y at (b .1 .le))
