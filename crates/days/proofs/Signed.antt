@@ -51,7 +51,7 @@ mag-subℕ a b = go (ltb a (suc b)) refl where
   go true e = rw e (omega arith)
   go false e = rw e (omega arith)
 
-mag-sub : (a b : ℤ) → mag (a -ℤ b) ≤ mag a + mag b + 1
+pub mag-sub : (a b : ℤ) → mag (a -ℤ b) ≤ mag a + mag b + 1
 mag-sub (pos a) (pos zero) = omega arith
 mag-sub (pos a) (pos (suc b)) = omega (arith, mag-subℕ a b)
 mag-sub (pos a) (negsuc b) = omega arith

@@ -1,4 +1,4 @@
--- `Tokens`: a journey with a token, and one without. `Shifted`: the counts of a moment. `Soundings`: cases that hold by proof.
+-- `Tokens`: a journey with a token, and one without. `Counts`: the counts of a moment. `Soundings`: cases that hold by proof.
 pub mod Tokens
-pub mod Shifted
+pub mod Counts
 pub mod Soundings

@@ -13,7 +13,7 @@ use Rattle.ids.specs.declared.lookup.Found.{Found}
 use Rattle.ids.specs.declared.lookup.Found.the-variants.{At, Nothing}
 use Rattle.columns.specs.Rows.{some}
 use Rattle.refs.specs.Refs.{journeyIdOf, afterColons, afterParts, afterKind, isKind, withoutLocPart}
-use Rattle.trip_times.specs.Fits.{away, gap, ifRuns, nearer}
+use Rattle.trip_times.specs.Fits.{away, ifRuns, nearer}
 use Rattle.trip_times.specs.Line.{alone, bestOf, beside, isCrowded}
 use Rattle.trip_times.specs.declared.fit.Fit.{Fit}
 use Rattle.trip_times.specs.declared.fit.Fit.the-variants.{By}
@@ -51,5 +51,5 @@ Soundings =
     × (away (daily 0 86460) ≡ 60)
 
 pub soundings : Soundings
-unfolding journeyIdOf afterColons afterParts afterKind isKind withoutLocPart firstByte firstPlace lastByte keptOf prefixOf suffixOf trimmedTimes first last equal upperOf gap bestOf beside isCrowded some
+unfolding journeyIdOf afterColons afterParts afterKind isKind withoutLocPart firstByte firstPlace lastByte keptOf prefixOf suffixOf trimmedTimes first last equal upperOf bestOf beside isCrowded some
 soundings = (refl, refl, refl, refl, refl, refl, refl, refl, refl)

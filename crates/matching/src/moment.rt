@@ -1,17 +1,18 @@
 // A moment of local time as the two counts that departures are compared with.
+use days::ServiceDay;
 use trip_times::Count;
 ghost use mathlib.Core.Path.{_≡_};
 ghost use Rattle.matching.specs.Moments.{todayOf, yesterdayOf, InReach};
 
-// The moment in its own service day. A day is added, so that one before day 0 is not negative.
+// The moment in its own service day, whose ordinal is 719,163 more than its number.
 pub fn today(local: i64) -> Count
     requires { ⌜ InReach local ⌝ }
     ensures { λ r. ⌜ r ≡ todayOf local ⌝ }
 {
-    let later = (local + 86400) as u64;
+    let at = ServiceDay::at(local);
     Count {
-        day: (later / 86400 + 719162) as u32,
-        second: (later % 86400) as u32,
+        day: (at.day + 719163) as u32,
+        second: at.second as u32,
     }
 }
 
@@ -20,9 +21,9 @@ pub fn yesterday(local: i64) -> Count
     requires { ⌜ InReach local ⌝ }
     ensures { λ r. ⌜ r ≡ yesterdayOf local ⌝ }
 {
-    let later = (local + 86400) as u64;
+    let t = today(local);
     Count {
-        day: (later / 86400 + 719161) as u32,
-        second: (later % 86400 + 86400) as u32,
+        day: t.day - 1,
+        second: t.second + ServiceDay::LENGTH as u32,
     }
 }

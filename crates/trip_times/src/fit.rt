@@ -1,4 +1,5 @@
-// How well a trip's first departure fits the moment asked of.
+// How well a trip's first departure fits the moment asked of, in signed seconds.
+use days::delta;
 use ids::Span;
 use services::runs;
 use tables::Calendars;
@@ -8,9 +9,10 @@ use tables::Ranges;
 use tables::Trips;
 ghost use mathlib.Core.Path.{_≡_};
 ghost use lib.Dec.{leb};
+ghost use lib.IntN.{natAbs, _-ℤ_};
 ghost use mathlib.Core.Bool.{_&&_};
 ghost use Rattle.services.specs.Runs.{Calendared};
-ghost use Rattle.trip_times.specs.Fits.{gap, away, near, nearer, ifRuns, runsOn, departing, tripFit};
+ghost use Rattle.trip_times.specs.Fits.{since, away, near, nearer, ifRuns, runsOn, departing, tripFit};
 
 // The moment asked of, in a service day: the day, as `days::ordinal_of` counts it, and the seconds from its beginning.
 pub struct Count {
@@ -35,14 +37,25 @@ pub struct Plan {
     pub exceptions: Exceptions,
 }
 
-// How far apart two numbers are.
-pub fn apart(a: u64, b: u64) -> u64
-    ensures { λ r. ⌜ r ≡ gap a b ⌝ }
+// The seconds from its count to a departure: negative where it departs before.
+fn seconds_since(s: u32, count: u32) -> i64
+    ensures { λ r. ⌜ r ≡ since s count ⌝ }
 {
-    if a < b {
-        return b - a;
-    }
-    a - b
+    s as i64 - count as i64
+}
+
+// The same without its sign.
+fn seconds_away(s: u32, count: u32) -> u64
+    ensures { λ r. ⌜ r ≡ natAbs (since s count) ⌝ }
+{
+    delta(s as i64, count as i64) as u64
+}
+
+// How far two departures, each taken from its count, are apart.
+fn seconds_apart(s: u32, c: u32, t: u32, d: u32) -> u64
+    ensures { λ r. ⌜ r ≡ natAbs (since s c -ℤ since t d) ⌝ }
+{
+    delta(seconds_since(s, c), seconds_since(t, d)) as u64
 }
 
 // How far from its count a departure is; 901 seconds, which is too far, where there is none.
@@ -51,7 +64,7 @@ pub fn away_of(fit: Fit) -> u64
 {
     match fit {
         Fit::Never => 901,
-        Fit::By(s, count) => apart(s as u64, count as u64),
+        Fit::By(s, count) => seconds_away(s, count),
     }
 }
 
@@ -64,7 +77,7 @@ pub fn are_near(a: Fit, b: Fit) -> bool
         Fit::By(s, c) => {
             match b {
                 Fit::Never => false,
-                Fit::By(t, d) => apart(s as u64 + d as u64, t as u64 + c as u64) <= 120,
+                Fit::By(t, d) => seconds_apart(s, c, t, d) <= 120,
             }
         }
     }
@@ -80,7 +93,7 @@ fn nearer_of(a: Fit, b: Fit) -> Fit
             match b {
                 Fit::Never => a,
                 Fit::By(t, d) => {
-                    if apart(t as u64, d as u64) < apart(s as u64, c as u64) {
+                    if seconds_away(t, d) < seconds_away(s, c) {
                         return b;
                     }
                     a

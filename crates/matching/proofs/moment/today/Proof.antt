@@ -1,26 +1,29 @@
 use borrow.Author.Needs.{needs}
 use native.Mathlib.Omega.{arith}
-use Rattle.matching.proofs.Shifted.{later-fits, later-read, later-small, today-is}
+use mathlib.Core.Path.{_≡_, _∙_, ap}
+use mir.Facts.{toZ-ofZ}
+use Rattle.days.specs.Service.{serviceDayOf}
+use Rattle.matching.proofs.Counts.{ordinal-read, ordinal-small, second-read, second-small, sum-fits, unsigned}
 use Rattle.matching.proofs.moment.today.Statement.{statement}
 use Rattle.matching.proofs.moment.today.Tie as tie
 
-add-later : tie.Need-add-later
-add-later c = later-fits (c .args .local) (c .fits .local) (c .pre)
+splits : (c : tie.After-at) → c .at .result ≡ serviceDayOf (c .before .args .local)
+splits c = c .at .ensures .0 ∙ ap serviceDayOf (toZ-ofZ (c .before .fits .local))
 
-cast-later : tie.Need-cast-later
-cast-later c = rw (later-read (c .args .local) (c .fits .local) (c .pre)) (tt, record { fits = omega (arith, later-small (c .args .local) (c .pre)) })
+at-requires : tie.Need-at-requires
+at-requires c κs = search needs
 
-add-t5 : tie.Need-add-t5
-add-t5 c = rw (later-read (c .args .local) (c .fits .local) (c .pre)) (record { fits = omega (arith, later-small (c .args .local) (c .pre)) })
+add-t3 : tie.Need-add-t3
+add-t3 c = let a = c .before .before in let s = a .before in rw (splits a) (sum-fits (s .args .local) (s .pre))
 
-cast-t6 : tie.Need-cast-t6
-cast-t6 c = rw (later-read (c .args .local) (c .fits .local) (c .pre)) (record { fits = omega (arith, later-small (c .args .local) (c .pre)) })
+cast-t4 : tie.Need-cast-t4
+cast-t4 c = let a = c .before .before in let s = a .before in rw (splits a) (unsigned _ _ (ordinal-read (s .args .local) (s .pre)) (omega (arith, ordinal-small (s .args .local) (s .pre))))
 
-cast-t8 : tie.Need-cast-t8
-cast-t8 c = search needs
+cast-t5 : tie.Need-cast-t5
+cast-t5 c = let a = c .before .before .before .before in let z = a .before .args .local in rw (splits a) (unsigned _ _ (second-read z) (omega (arith, second-small z)))
 
 returns : tie.Need-returns
-returns c = rw (later-read (c .args .local) (c .fits .local) (c .pre)) (today-is (c .args .local) (c .pre))
+returns c = let a = c .before .before .before .before in let s = a .before in rw (splits a, ordinal-read (s .args .local) (s .pre), second-read (s .args .local))
 
 pub today-spec : {M : Type 1} → statement M
-today-spec = tie.close (tie.spec add-later cast-later add-t5 cast-t6 cast-t8 returns)
+today-spec = tie.close (tie.spec at-requires add-t3 cast-t4 cast-t5 returns)

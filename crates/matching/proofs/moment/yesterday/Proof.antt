@@ -1,29 +1,30 @@
 use borrow.Author.Needs.{needs}
 use native.Mathlib.Omega.{arith}
-use Rattle.matching.proofs.Shifted.{later-fits, later-read, later-small, yesterday-is}
+use mathlib.Core.Path.{_≡_, _∙_, ap}
+use mir.Facts.{toZ-ofZ}
+use Rattle.matching.specs.Moments.{todayOf, yesterdayOf}
+use Rattle.matching.proofs.Counts.{ordinal-small, second-small}
 use Rattle.matching.proofs.moment.yesterday.Statement.{statement}
 use Rattle.matching.proofs.moment.yesterday.Tie as tie
 
-add-later : tie.Need-add-later
-add-later c = later-fits (c .args .local) (c .fits .local) (c .pre)
+counts : (c : tie.After-today) → c .today .result ≡ todayOf (c .before .args .local)
+counts c = c .today .ensures ∙ ap todayOf (toZ-ofZ (c .before .fits .local))
 
-cast-later : tie.Need-cast-later
-cast-later c = rw (later-read (c .args .local) (c .fits .local) (c .pre)) (tt, record { fits = omega (arith, later-small (c .args .local) (c .pre)) })
+today-requires : tie.Need-today-requires
+today-requires c κs = search needs
+
+sub-t3 : tie.Need-sub-t3
+sub-t3 c = let t = c .before in rw (counts t) (ordinal-small (t .before .args .local) (t .before .pre) .0)
+
+cast-t4 : tie.Need-cast-t4
+cast-t4 c = search needs
 
 add-t5 : tie.Need-add-t5
-add-t5 c = rw (later-read (c .args .local) (c .fits .local) (c .pre)) (record { fits = omega (arith, later-small (c .args .local) (c .pre)) })
-
-cast-t6 : tie.Need-cast-t6
-cast-t6 c = rw (later-read (c .args .local) (c .fits .local) (c .pre)) (record { fits = omega (arith, later-small (c .args .local) (c .pre)) })
-
-add-t8 : tie.Need-add-t8
-add-t8 c = search needs
-
-cast-t9 : tie.Need-cast-t9
-cast-t9 c = search needs
+add-t5 c = let t = c .before .before in rw (counts t) (record { fits = omega (arith, second-small (t .before .args .local)) })
 
 returns : tie.Need-returns
-returns c = rw (later-read (c .args .local) (c .fits .local) (c .pre)) (yesterday-is (c .args .local) (c .pre))
+unfolding yesterdayOf
+returns c = rw (counts (c .before .before))
 
 pub yesterday-spec : {M : Type 1} → statement M
-yesterday-spec = tie.close (tie.spec add-later cast-later add-t5 cast-t6 add-t8 cast-t9 returns)
+yesterday-spec = tie.close (tie.spec today-requires sub-t3 cast-t4 add-t5 returns)

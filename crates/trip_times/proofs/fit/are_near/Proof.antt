@@ -1,7 +1,7 @@
 use borrow.Author.Needs.{needs}
 use Rattle.trip_times.proofs.fit.are_near.Statement.{statement}
 use Rattle.trip_times.proofs.fit.are_near.Tie as tie
-use Rattle.trip_times.proofs.fit.apart.Reads as apart-reads
+use Rattle.trip_times.proofs.fit.seconds_apart.Reads as seconds-apart-reads
 
 enum-told : tie.Need-enum-told
 enum-told c = search needs
@@ -15,26 +15,8 @@ enum-told-2 c = search needs
 enum-known-b : tie.Need-enum-known-b
 enum-known-b c = search needs
 
-cast-apart : tie.Need-cast-apart
-cast-apart c = search needs
-
-cast-apart-2 : tie.Need-cast-apart-2
-cast-apart-2 c = search needs
-
-add-apart : tie.Need-add-apart
-add-apart c = search needs
-
-cast-apart-3 : tie.Need-cast-apart-3
-cast-apart-3 c = search needs
-
-cast-apart-4 : tie.Need-cast-apart-4
-cast-apart-4 c = search needs
-
-add-apart-2 : tie.Need-add-apart-2
-add-apart-2 c = search needs
-
-apart-requires : tie.Need-apart-requires
-apart-requires c κs = search needs
+seconds-apart-requires : tie.Need-seconds-apart-requires
+seconds-apart-requires c κs = search needs
 
 returns : tie.Need-returns
 returns c = search needs
@@ -43,7 +25,7 @@ returns-2 : tie.Need-returns-2
 returns-2 c = search needs
 
 returns-3 : tie.Need-returns-3
-returns-3 c = rw (c .before .before .before .before .before .a .given .1, c .before .before .b .given .1, ← c .apart .ensures)
+returns-3 c = rw (c .before .before .before .before .before .a .given .1, c .before .before .b .given .1, ← c .seconds-apart .ensures)
 
 pub are-near-spec : {M : Type 1} → statement M
 are-near-spec =
@@ -53,13 +35,7 @@ are-near-spec =
     enum-known-a
     enum-told-2
     enum-known-b
-    cast-apart
-    cast-apart-2
-    add-apart
-    cast-apart-3
-    cast-apart-4
-    add-apart-2
-    apart-requires
+    seconds-apart-requires
     returns
     returns-2
     returns-3)

@@ -2,7 +2,7 @@ use borrow.Author.Needs.{needs}
 use borrow.Author.Tests.{le-ltb, lt-ltb}
 use Rattle.trip_times.proofs.fit.nearer_of.Statement.{statement}
 use Rattle.trip_times.proofs.fit.nearer_of.Tie as tie
-use Rattle.trip_times.proofs.fit.apart.Reads as apart-reads
+use Rattle.trip_times.proofs.fit.seconds_away.Reads as seconds-away-reads
 
 enum-told : tie.Need-enum-told
 enum-told c = search needs
@@ -16,26 +16,14 @@ enum-told-2 c = search needs
 enum-known-b : tie.Need-enum-known-b
 enum-known-b c = search needs
 
-cast-apart : tie.Need-cast-apart
-cast-apart c = search needs
+seconds-away-requires : tie.Need-seconds-away-requires
+seconds-away-requires c κs = search needs
 
-cast-apart-2 : tie.Need-cast-apart-2
-cast-apart-2 c = search needs
-
-apart-requires : tie.Need-apart-requires
-apart-requires c κs = search needs
-
-cast-apart-3 : tie.Need-cast-apart-3
-cast-apart-3 c = search needs
-
-cast-apart-4 : tie.Need-cast-apart-4
-cast-apart-4 c = search needs
-
-apart-requires-2 : tie.Need-apart-requires-2
-apart-requires-2 c κs = search needs
+seconds-away-requires-2 : tie.Need-seconds-away-requires-2
+seconds-away-requires-2 c κs = search needs
 
 returns : tie.Need-returns
-returns c = rw (c .before .before .before .before .before .before .before .a .given .1, c .before .before .before .before .b .given .1, lt-ltb _ _ (rw (c .before .before .apart .ensures, c .before .apart2 .ensures) at (c .if1 .taken)))
+returns c = rw (c .before .before .before .before .before .before .before .a .given .1, c .before .before .before .before .b .given .1, lt-ltb _ _ (rw (c .before .before .seconds-away .ensures, c .before .seconds-away2 .ensures) at (c .if1 .taken)))
 
 returns-2 : tie.Need-returns-2
 returns-2 c = search needs
@@ -44,7 +32,7 @@ returns-3 : tie.Need-returns-3
 returns-3 c = rw (c .before .before .before .a .given .1, c .enum-told2 .given .1)
 
 returns-4 : tie.Need-returns-4
-returns-4 c = rw (c .before .before .before .before .before .before .before .a .given .1, c .before .before .before .before .b .given .1, le-ltb _ _ (rw (c .before .before .apart .ensures, c .before .apart2 .ensures) at (c .if1 .left)))
+returns-4 c = rw (c .before .before .before .before .before .before .before .a .given .1, c .before .before .before .before .b .given .1, le-ltb _ _ (rw (c .before .before .seconds-away .ensures, c .before .seconds-away2 .ensures) at (c .if1 .left)))
 
 pub nearer-of-spec : {M : Type 1} → statement M
 nearer-of-spec =
@@ -54,12 +42,8 @@ nearer-of-spec =
     enum-known-a
     enum-told-2
     enum-known-b
-    cast-apart
-    cast-apart-2
-    apart-requires
-    cast-apart-3
-    cast-apart-4
-    apart-requires-2
+    seconds-away-requires
+    seconds-away-requires-2
     returns
     returns-2
     returns-3
