@@ -1,4 +1,4 @@
--- The fixed texts of gtfs/siri_trip_map.rs, as bytes.
+-- The fixed texts of gtfs/siri_trip_map.rs, and the one of rt/estimate.rs that marks a stop's digits, as bytes.
 use Prim.Native.Nat.{ℕ}
 use mathlib.Core.List.{List, [], _∷_}
 
@@ -37,3 +37,7 @@ lineMark = 76 ∷ 73 ∷ 78 ∷ 69 ∷ 58 ∷ 58 ∷ []
 -- local-
 abbrev pub localMark : List ℕ
 localMark = 108 ∷ 111 ∷ 99 ∷ 97 ∷ 108 ∷ 45 ∷ []
+
+-- :Q:
+abbrev pub stopMark : List ℕ
+stopMark = 58 ∷ 81 ∷ 58 ∷ []

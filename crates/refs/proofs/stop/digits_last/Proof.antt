@@ -1,0 +1,23 @@
+use borrow.Author.Needs.{needs}
+use Rattle.refs.specs.Stops.{digitsLast}
+use Rattle.refs.proofs.stop.digits_last.Statement.{statement}
+use Rattle.refs.proofs.stop.digits_last.Tie as tie
+use Rattle.ids.proofs.digits_at.Reads as digits-at-reads
+use Rattle.refs.proofs.part.from.Reads as from-reads
+use Rattle.refs.proofs.part.if_long.Reads as if-long-reads
+
+digits-at-requires : tie.Need-digits-at-requires
+digits-at-requires c κs = search needs
+
+from-requires : tie.Need-from-requires
+from-requires c κs = search needs
+
+if-long-requires : tie.Need-if-long-requires
+if-long-requires c κs = search needs
+
+returns : tie.Need-returns
+unfolding digitsLast
+returns c = rw (c .if-long .ensures, c .before .from .ensures, c .before .before .digits-at .ensures)
+
+pub digits-last-spec : {M : Type 1} → statement M
+digits-last-spec = tie.close (tie.spec digits-at-requires from-requires if-long-requires returns)

@@ -1,0 +1,23 @@
+-- The digits of a stop's text, by which the stop may be known. An empty text stands for none.
+use Prim.Native.Nat.{ℕ}
+use mathlib.Core.List.{List, []}
+use lib.ListN.{take, drop}
+use Rattle.ids.specs.Texts.{firstPlace, digitRun, digitsAt}
+use Rattle.refs.specs.Words.{stopMark}
+use Rattle.refs.specs.Refs.{past, ifLong, orText}
+
+-- the digits at the beginning
+unfoldable pub digitsFirst : List ℕ → List ℕ
+digitsFirst s = take (digitRun s) s
+
+-- those after the first ":Q:"; four at least
+unfoldable pub markedDigits : List ℕ → List ℕ
+markedDigits s = ifLong 4 (digitsFirst (past 3 (firstPlace stopMark s) s []))
+
+-- the digits at the end; four at least
+unfoldable pub digitsLast : List ℕ → List ℕ
+digitsLast s = ifLong 4 (drop (digitsAt s) s)
+
+-- those after the first ":Q:", or else those at the end
+unfoldable pub stopDigitsOf : List ℕ → List ℕ
+stopDigitsOf s = orText (markedDigits s) (digitsLast s)
