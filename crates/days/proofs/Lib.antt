@@ -9,4 +9,3 @@ pub mod Apart
 pub mod Ordinals
 pub mod Ascending
 pub mod Next
-pub mod Soundings

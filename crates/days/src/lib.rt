@@ -5,7 +5,7 @@
 // The calendar of the contracts, specs/Days.antt, adds up years and months one by one. Laws that a
 // caller cites are in proofs/: Ascending (dates are in the order of their days), Next (from a date to
 // the next it is one day), Weekdays (a weekday is below 7, and the next day has the next), Apart
-// (what `delta` answers is never negative), Soundings (the paper's examples).
+// (what `delta` answers is never negative: it is the difference without its sign).
 mod calendar; // leap years, the length of a month, the days before a month and before a year
 mod date; // a date's digits as a day number, and a day's weekday
 mod service; // a moment of local time as a service day, and how far two counts of seconds are apart

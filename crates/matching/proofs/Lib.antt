@@ -1,4 +1,3 @@
--- `Tokens`: a journey with a token, and one without. `Counts`: the counts of a moment. `Soundings`: cases that hold by proof.
+-- `Tokens`: a journey with a token, and one without. `Counts`: the counts of a moment.
 pub mod Tokens
 pub mod Counts
-pub mod Soundings

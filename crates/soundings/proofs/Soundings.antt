@@ -1,0 +1,17 @@
+-- Document 01's cases, by computing the definitions.
+use mathlib.Core.Path.{refl}
+use Rattle.ids.specs.Bytes.{upperOf}
+use Rattle.ids.specs.Cmp.{equal}
+use Rattle.ids.specs.First.{first, last}
+use Rattle.ids.specs.Texts.{firstByte, firstPlace, lastByte, keptOf, prefixOf, runOf, suffixOf, trimmedTimes}
+use Rattle.days.specs.Days.{leap, yearDays, monthDays, daysBeforeMonth, daysBeforeYear, isDate, ordinal, dayOf, weekdayOf}
+use Rattle.days.specs.Read.{readDateOf}
+use Rattle.columns.specs.Rows.{some}
+use Rattle.refs.specs.Refs.{journeyIdOf, afterColons, afterParts, afterKind, isKind, withoutLocPart}
+use Rattle.refs.specs.Stops.{stopDigitsOf, digitsFirst, digitsLast, markedDigits}
+use Rattle.trip_times.specs.Line.{bestOf, beside, isCrowded}
+use Rattle.soundings.specs.Soundings.{Soundings}
+
+pub soundings : Soundings
+unfolding leap yearDays monthDays daysBeforeMonth daysBeforeYear isDate ordinal dayOf weekdayOf readDateOf journeyIdOf afterColons afterParts afterKind isKind withoutLocPart stopDigitsOf digitsFirst digitsLast markedDigits firstByte firstPlace lastByte keptOf prefixOf runOf suffixOf trimmedTimes first last equal upperOf bestOf beside isCrowded some
+soundings = (refl, refl, refl, refl, refl, refl, refl, refl, refl, refl, refl, refl, refl, refl, refl, refl, refl)
