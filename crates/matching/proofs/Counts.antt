@@ -1,5 +1,5 @@
 -- A moment's service day as a count: its ordinal is not negative, and both numbers are small. Assumes nothing.
-use Prim.Native.Nat.{_+_, _/_, _%_, _<_, _≤_, _^_}
+use Prim.Native.Nat.{_/_, _<_, _≤_, _^_}
 use native.Mathlib.Omega.{arith}
 use mathlib.Core.Path.{_≡_, refl}
 use lib.Dec.{T}

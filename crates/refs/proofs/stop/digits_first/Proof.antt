@@ -2,8 +2,6 @@ use borrow.Author.Needs.{needs}
 use Rattle.refs.specs.Stops.{digitsFirst}
 use Rattle.refs.proofs.stop.digits_first.Statement.{statement}
 use Rattle.refs.proofs.stop.digits_first.Tie as tie
-use Rattle.ids.proofs.digit_run.Reads as digit-run-reads
-use Rattle.refs.proofs.part.first.Reads as first-reads
 
 digit-run-requires : tie.Need-digit-run-requires
 digit-run-requires c κs = search needs

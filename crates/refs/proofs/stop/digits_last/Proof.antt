@@ -2,9 +2,6 @@ use borrow.Author.Needs.{needs}
 use Rattle.refs.specs.Stops.{digitsLast}
 use Rattle.refs.proofs.stop.digits_last.Statement.{statement}
 use Rattle.refs.proofs.stop.digits_last.Tie as tie
-use Rattle.ids.proofs.digits_at.Reads as digits-at-reads
-use Rattle.refs.proofs.part.from.Reads as from-reads
-use Rattle.refs.proofs.part.if_long.Reads as if-long-reads
 
 digits-at-requires : tie.Need-digits-at-requires
 digits-at-requires c κs = search needs

@@ -2,10 +2,6 @@ use borrow.Author.Needs.{needs}
 use Rattle.refs.specs.Stops.{markedDigits}
 use Rattle.refs.proofs.stop.marked_digits.Statement.{statement}
 use Rattle.refs.proofs.stop.marked_digits.Tie as tie
-use Rattle.ids.proofs.first_place.Reads as first-place-reads
-use Rattle.refs.proofs.part.if_long.Reads as if-long-reads
-use Rattle.refs.proofs.part.past_place.Reads as past-place-reads
-use Rattle.refs.proofs.stop.digits_first.Reads as digits-first-reads
 
 slice-aggregate-first-place : tie.Need-slice-aggregate-first-place
 slice-aggregate-first-place c = search needs

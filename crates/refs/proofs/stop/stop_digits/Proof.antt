@@ -4,8 +4,6 @@ use Rattle.refs.specs.Stops.{stopDigitsOf}
 use Rattle.refs.proofs.Either.{or-empty, or-some}
 use Rattle.refs.proofs.stop.stop_digits.Statement.{statement}
 use Rattle.refs.proofs.stop.stop_digits.Tie as tie
-use Rattle.refs.proofs.stop.digits_last.Reads as digits-last-reads
-use Rattle.refs.proofs.stop.marked_digits.Reads as marked-digits-reads
 
 marked-digits-requires : tie.Need-marked-digits-requires
 marked-digits-requires c κs = search needs

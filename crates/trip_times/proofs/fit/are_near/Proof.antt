@@ -1,7 +1,6 @@
 use borrow.Author.Needs.{needs}
 use Rattle.trip_times.proofs.fit.are_near.Statement.{statement}
 use Rattle.trip_times.proofs.fit.are_near.Tie as tie
-use Rattle.trip_times.proofs.fit.seconds_apart.Reads as seconds-apart-reads
 
 enum-told : tie.Need-enum-told
 enum-told c = search needs

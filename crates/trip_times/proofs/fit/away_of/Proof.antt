@@ -1,7 +1,6 @@
 use borrow.Author.Needs.{needs}
 use Rattle.trip_times.proofs.fit.away_of.Statement.{statement}
 use Rattle.trip_times.proofs.fit.away_of.Tie as tie
-use Rattle.trip_times.proofs.fit.seconds_away.Reads as seconds-away-reads
 
 enum-told : tie.Need-enum-told
 enum-told c = search needs

@@ -2,7 +2,6 @@ use borrow.Author.Needs.{needs}
 use borrow.Author.Tests.{le-ltb, lt-ltb}
 use Rattle.trip_times.proofs.fit.nearer_of.Statement.{statement}
 use Rattle.trip_times.proofs.fit.nearer_of.Tie as tie
-use Rattle.trip_times.proofs.fit.seconds_away.Reads as seconds-away-reads
 
 enum-told : tie.Need-enum-told
 enum-told c = search needs
