@@ -1,0 +1,3 @@
+-- What the contracts cite. `Line`: points, and a line of two columns. `Length`: lengths along a line.
+pub mod Line
+pub mod Length
