@@ -1,0 +1,5 @@
+-- What the contracts cite. `Near`: distances from a stop, their least, and the first and last that are small enough. `Forward`: the vertex that a stop lies at.
+-- `Projection`: the cursor, and the vertices of a trip's stops.
+pub mod Near
+pub mod Forward
+pub mod Projection

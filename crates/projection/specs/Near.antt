@@ -1,0 +1,43 @@
+-- Distances from a stop to the points of a line, in metres. A list of them is numbered from the vertex that its first is of. Definitions only.
+use Prim.Native.Nat.{ℕ, suc, _-_, min}
+use mathlib.Core.Bool.{false, cond}
+use mathlib.Core.List.{List, [], _∷_, foldl}
+use lib.Ieee.{Float, inf, le}
+use lib.ListN.{length}
+use Rattle.ids.specs.declared.lookup.Found.{Found}
+use Rattle.ids.specs.declared.lookup.Found.the-variants.{At, Nothing}
+use Rattle.ieee.specs.Number.{leastOf}
+use Rattle.lengths.specs.Line.{metresOf}
+use Rattle.lengths.specs.declared.line.Point.{Point}
+
+unfoldable pub distancesOf : Point → List Point → List Float
+distancesOf stop [] = []
+distancesOf stop (v ∷ line) = metresOf stop v ∷ distancesOf stop line
+
+-- the least that is no NaN, and infinity where there is none
+unfoldable pub leastIn : List Float → Float
+leastIn ds = foldl leastOf (inf false) ds
+
+-- the first that is at most `most`, numbered from k
+unfoldable pub firstWithin : Float → ℕ → List Float → Found
+firstWithin most k [] = Nothing
+firstWithin most k (d ∷ ds) = cond (le d most) (At k) (firstWithin most (suc k) ds)
+
+-- the first of two that is there
+abbrev pub orElse : Found → Found → Found
+orElse (At k) other = At k
+orElse Nothing other = other
+
+-- the last that is at most `most`, numbered from k
+unfoldable pub lastWithin : Float → ℕ → List Float → Found
+lastWithin most k [] = Nothing
+lastWithin most k (d ∷ ds) = orElse (lastWithin most (suc k) ds) (cond (le d most) (At k) Nothing)
+
+-- the vertex that a search from `from` begins at: brought down to the last
+unfoldable pub startOf : List Point → ℕ → ℕ
+startOf line from = min from (length line - 1)
+
+-- the vertex found, or else the other
+abbrev pub orVertex : Found → ℕ → ℕ
+orVertex (At k) other = k
+orVertex Nothing other = other

@@ -1,0 +1,57 @@
+// The vertex of a line that a stop lies at, searched from a vertex on. It is not the nearest: it is
+// the first, or the last, that is no more than the slack farther than the nearest.
+ghost use mathlib.Core.Path.{_≡_};
+ghost use Rattle.lengths.specs.Line.{lineOf};
+ghost use Rattle.projection.specs.Near.{orVertex, startOf};
+ghost use Rattle.projection.specs.Forward.{forwardShapeIndex, forwardLastIndex};
+use crate::cursor::Cursor;
+use crate::near::first_within;
+use crate::near::last_within;
+use crate::near::least_from;
+use ids::Found;
+use lengths::Point;
+use lengths::vertices;
+
+// The vertex that a search from `from` begins at: brought down to the last, and 0 on a line without
+// vertices.
+fn start(lat: &[f64], lon: &[f64], from: usize) -> usize
+    ensures { λ r. ⌜ r ≡ startOf (lineOf (now (lat .entry)) (now (lon .entry))) from ⌝ }
+{
+    let n = vertices(lat, lon);
+    if from < n {
+        return from;
+    }
+    if n == 0 {
+        return 0;
+    }
+    n - 1
+}
+
+// The vertex found, or the one that the search began at.
+fn or_vertex(found: Found, from: usize) -> usize
+    ensures { λ r. ⌜ r ≡ orVertex found from ⌝ }
+{
+    match found {
+        Found::At(k) => k,
+        Found::Nothing => from,
+    }
+}
+
+// The first vertex from `from` on within the slack of the least distance; `from`, brought down to the
+// last vertex, where every distance is NaN.
+pub fn forward_shape_index(lat: &[f64], lon: &[f64], from: usize, stop: Point) -> usize
+    ensures { λ r. ⌜ r ≡ forwardShapeIndex (lineOf (now (lat .entry)) (now (lon .entry))) from stop ⌝ }
+{
+    let at = start(lat, lon, from);
+    let most = least_from(lat, lon, stop, at) + Cursor::SLACK;
+    or_vertex(first_within(lat, lon, stop, at, most), at)
+}
+
+// The last: for the end of a trip on a line that ends where it starts.
+pub fn forward_last_index(lat: &[f64], lon: &[f64], from: usize, stop: Point) -> usize
+    ensures { λ r. ⌜ r ≡ forwardLastIndex (lineOf (now (lat .entry)) (now (lon .entry))) from stop ⌝ }
+{
+    let at = start(lat, lon, from);
+    let most = least_from(lat, lon, stop, at) + Cursor::SLACK;
+    or_vertex(last_within(lat, lon, stop, at, most), at)
+}
