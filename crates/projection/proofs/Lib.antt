@@ -1,2 +1,4 @@
--- `Search`: what a turn of each loop over a line's distances does.
+-- `Search`: what a turn of each loop over a line's distances does. `Order`: a trip's vertices are in range and in order. `Split`: a trip in two parts.
 pub mod Search
+pub mod Order
+pub mod Split

@@ -1,0 +1,169 @@
+-- The vertices of a trip's stops: each stop with a position gets one, on the line, and none before an earlier stop's. Assumes nothing.
+use Prim.Native.Nat.{ℕ, zero, suc, _+_, _-_, _<_, _≤_, min}
+use native.Mathlib.Omega.{arith}
+use mathlib.Core.Path.{_≡_, refl, sym, ap, _∙_}
+use mathlib.Core.Bool.{Bool, true, false, cond}
+use mathlib.Core.List.{List, [], _∷_}
+use lib.Ieee.{Float, le, binary64, add}
+use lib.ListN.{length, drop, getD, length-drop}
+use Rattle.ids.specs.declared.lookup.Found.{Found}
+use Rattle.ids.specs.declared.lookup.Found.the-variants.{At, Nothing}
+use Rattle.ids.proofs.ByteOrder.{clash}
+use Rattle.lengths.specs.declared.line.Point.{Point}
+use Rattle.projection.specs.Near.{distancesOf, leastIn, firstWithin, lastWithin, startOf, orElse, orVertex}
+use Rattle.projection.specs.Forward.{slack, pickFrom, forwardShapeIndex, forwardLastIndex}
+use Rattle.projection.specs.Projection.{stepOf, passedOf, projectionFrom}
+use Rattle.projection.specs.declared.cursor.Cursor.{Cursor}
+use Rattle.projection.specs.declared.cursor.Position.{Position}
+use Rattle.projection.specs.declared.cursor.Position.the-variants.{Known, Missing}
+
+-- ---- what a search finds is among what it searches
+
+pub distance-count : (stop : Point) (line : List Point) → length (distancesOf stop line) ≡ length line
+unfolding distancesOf
+distance-count stop [] = refl
+distance-count stop (v ∷ line) = ap suc (distance-count stop line)
+
+-- a vertex found, or the other, is in a range that holds both
+pub record Among (low high : ℕ) (f : Found) : Type 0 where
+  pub from : (j : ℕ) → f ≡ At j → low ≤ j
+  pub below : (j : ℕ) → f ≡ At j → j < high
+
+at-among : {low high : ℕ} (k : ℕ) → low ≤ k → k < high → Among low high (At k)
+at-among k a b = record { from = λ j e. let q : k ≡ j = cc in omega arith; below = λ j e. let q : k ≡ j = cc in omega arith }
+
+none-among : {low high : ℕ} → Among low high Nothing
+none-among = record { from = λ j e. clash (cc); below = λ j e. clash (cc) }
+
+wider : {low high low′ high′ : ℕ} {f : Found} → low′ ≤ low → high ≤ high′ → Among low high f → Among low′ high′ f
+wider a b m = record { from = λ j e. omega (arith, m .from j e); below = λ j e. omega (arith, m .below j e) }
+
+pub first-among : (most : Float) (k : ℕ) (ds : List Float) → Among k (k + length ds) (firstWithin most k ds)
+unfolding firstWithin
+first-among most k [] = none-among
+first-among most k (d ∷ ds) = go (wider (omega arith) (omega arith) (first-among most (suc k) ds)) (le d most) where
+  go : Among k (k + suc (length ds)) (firstWithin most (suc k) ds) → (t : Bool) → Among k (k + suc (length ds)) (cond t (At k) (firstWithin most (suc k) ds))
+  go m true = at-among k (omega arith) (omega arith)
+  go m false = m
+
+pub last-among : (most : Float) (k : ℕ) (ds : List Float) → Among k (k + length ds) (lastWithin most k ds)
+unfolding lastWithin
+last-among most k [] = none-among
+last-among most k (d ∷ ds) = go (lastWithin most (suc k) ds) (wider (omega arith) (omega arith) (last-among most (suc k) ds)) (le d most) where
+  go : (f : Found) → Among k (k + suc (length ds)) f → (t : Bool) → Among k (k + suc (length ds)) (orElse f (cond t (At k) Nothing))
+  go (At j) m t = m
+  go Nothing m true = at-among k (omega arith) (omega arith)
+  go Nothing m false = none-among
+
+-- ---- the vertex of a stop, whichever of those found is picked
+
+module _ (pick : Float → ℕ → List Float → Found) (fair : (most : Float) (k : ℕ) (ds : List Float) → Among k (k + length ds) (pick most k ds)) where
+  or-from : (low high : ℕ) (f : Found) → Among low high f → low ≤ orVertex f low
+  or-from low high (At j) m = m .from j refl
+  or-from low high Nothing m = omega arith
+
+  or-most : (low high : ℕ) (f : Found) → low ≤ high - 1 → Among low high f → orVertex f low ≤ high - 1
+  or-most low high (At j) h m = omega (arith, m .below j refl)
+  or-most low high Nothing h m = h
+
+  module _ (line : List Point) (from : ℕ) (stop : Point) where
+    start-most : startOf line from ≤ length line - 1
+    unfolding startOf
+    start-most = omega arith
+
+    found-among : (most : Float) → Among (startOf line from) (length line) (pick most (startOf line from) (distancesOf stop (drop (startOf line from) line)))
+    found-among most =
+        let e : startOf line from + length (distancesOf stop (drop (startOf line from) line)) ≡ length line = rw (distance-count, length-drop) (omega (arith, start-most)) in
+        rw e at (fair most (startOf line from) (distancesOf stop (drop (startOf line from) line)))
+
+    picked-from : startOf line from ≤ pickFrom pick line (startOf line from) stop
+    picked-from = or-from (startOf line from) (length line) _ (found-among _)
+
+    picked-most : pickFrom pick line (startOf line from) stop ≤ length line - 1
+    picked-most = or-most (startOf line from) (length line) _ start-most (found-among _)
+
+module _ (line : List Point) (from : ℕ) (stop : Point) where
+  -- it is not before the vertex that the search begins at
+  pub first-from : startOf line from ≤ forwardShapeIndex line from stop
+  unfolding forwardShapeIndex
+  first-from = picked-from firstWithin first-among line from stop
+
+  pub last-from : startOf line from ≤ forwardLastIndex line from stop
+  unfolding forwardLastIndex
+  last-from = picked-from lastWithin last-among line from stop
+
+  -- it is one of the line's, or 0 where that has none
+  pub first-most : forwardShapeIndex line from stop ≤ length line - 1
+  unfolding forwardShapeIndex
+  first-most = picked-most firstWithin first-among line from stop
+
+  pub last-most : forwardLastIndex line from stop ≤ length line - 1
+  unfolding forwardLastIndex
+  last-most = picked-most lastWithin last-among line from stop
+
+-- ---- the vertices of a trip's stops
+
+module _ (line : List Point) where
+  -- each stop has its place among the vertices
+  pub same-count : (c : Cursor) (stops : List Position) → length (projectionFrom line c stops) ≡ length stops
+  unfolding projectionFrom
+  same-count c [] = refl
+  same-count c (s ∷ stops) = ap suc (same-count (passedOf line c s .cursor) stops)
+
+  -- a stop with a position gets a vertex of the line
+  pub gets-vertex : (c : Cursor) (stops : List Position) (i : ℕ) (p : Point) → getD stops i Missing ≡ Known p →
+      (v : ℕ) × (getD (projectionFrom line c stops) i Nothing ≡ At v) × (0 < length line → v < length line)
+  unfolding projectionFrom stepOf
+  gets-vertex c [] i p e = clash (cc)
+  gets-vertex c (s ∷ stops) zero p e =
+      (forwardShapeIndex line (c .at) p, ap (λ (t : Position). passedOf line c t .vertex) e, λ h. omega (arith, first-most line (c .at) p))
+  gets-vertex c (s ∷ stops) (suc i) p e = gets-vertex (passedOf line c s .cursor) stops i p e
+
+  -- a stop without one gets none
+  pub gets-none : (c : Cursor) (stops : List Position) (i : ℕ) → getD stops i Missing ≡ Missing → getD (projectionFrom line c stops) i Nothing ≡ Nothing
+  unfolding projectionFrom
+  gets-none c [] i e = refl
+  gets-none c (s ∷ stops) zero e = ap (λ (t : Position). passedOf line c t .vertex) e
+  gets-none c (s ∷ stops) (suc i) e = gets-none (passedOf line c s .cursor) stops i e
+
+  -- and does not move the cursor
+  pub unmoved : (c : Cursor) → passedOf line c Missing .cursor ≡ c
+  unmoved c = refl
+
+  -- a cursor at one of the line's vertices
+  abbrev OnLine : Cursor → Type 0
+  OnLine c = c .at ≤ length line - 1
+
+  stays : (c : Cursor) (s : Position) → OnLine c → OnLine (passedOf line c s .cursor)
+  unfolding stepOf
+  stays c (Known p) h = first-most line (c .at) p
+  stays c Missing h = h
+
+  starts-there : (k : ℕ) → k ≤ length line - 1 → startOf line k ≡ k
+  unfolding startOf
+  starts-there k h = omega arith
+
+  moves-on : (c : Cursor) (s : Position) → OnLine c → c .at ≤ passedOf line c s .cursor .at
+  unfolding stepOf
+  moves-on c (Known p) h = omega (arith, first-from line (c .at) p, starts-there (c .at) h)
+  moves-on c Missing h = omega arith
+
+  from-cursor : (c : Cursor) (stops : List Position) (j w : ℕ) → OnLine c → getD (projectionFrom line c stops) j Nothing ≡ At w → c .at ≤ w
+  unfolding projectionFrom stepOf
+  from-cursor c [] j w h e = clash (cc)
+  from-cursor c (Known p ∷ stops) zero w h e = let q : forwardShapeIndex line (c .at) p ≡ w = cc in omega (arith, first-from line (c .at) p, starts-there (c .at) h)
+  from-cursor c (Missing ∷ stops) zero w h e = clash (cc)
+  from-cursor c (s ∷ stops) (suc j) w h e = omega (arith, moves-on c s h, from-cursor (passedOf line c s .cursor) stops j w (stays c s h) e)
+
+  -- no stop's vertex is before an earlier stop's
+  pub in-order : (c : Cursor) (stops : List Position) (i j v w : ℕ) → i ≤ j → getD (projectionFrom line c stops) i Nothing ≡ At v →
+      getD (projectionFrom line c stops) j Nothing ≡ At w → v ≤ w
+  unfolding projectionFrom stepOf
+  in-order c [] i j v w h e f = clash (cc)
+  in-order c (s ∷ stops) zero zero v w h e f = let q : v ≡ w = cc in omega arith
+  in-order c (Known p ∷ stops) zero (suc j) v w h e f =
+      let q : forwardShapeIndex line (c .at) p ≡ v = cc in
+      omega (arith, from-cursor (passedOf line c (Known p) .cursor) stops j w (first-most line (c .at) p) f)
+  in-order c (Missing ∷ stops) zero (suc j) v w h e f = clash (cc)
+  in-order c (s ∷ stops) (suc i) zero v w h e f = absurd (omega arith)
+  in-order c (s ∷ stops) (suc i) (suc j) v w h e f = in-order (passedOf line c s .cursor) stops i j v w (omega arith) e f
