@@ -3,6 +3,7 @@
 #![allow(dead_code)]
 pub mod draw;
 pub mod fixed;
+pub mod lines;
 pub mod narrows;
 pub mod off;
 pub mod pairs;

@@ -1,4 +1,5 @@
 //! What a comparison counts, and when two answers are the same.
+#![allow(dead_code)]
 
 /// How many differing inputs of one comparison are shown.
 const SHOWN: usize = 5;

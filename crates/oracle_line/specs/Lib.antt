@@ -1,0 +1,2 @@
+-- `Asked`: what a caller in C asks.
+pub mod Asked

@@ -1,0 +1,89 @@
+// The C names under which tools/oracle holds lengths and the projection beside the Rust. Each says no
+// more than the function that it calls.
+ghost use mathlib.Core.Path.{_≡_};
+ghost use Rattle.lengths.specs.Length.{lengthTo};
+ghost use Rattle.lengths.specs.Line.{lineOf};
+ghost use Rattle.projection.specs.Forward.{forwardLastIndex, forwardShapeIndex};
+ghost use Rattle.projection.specs.Near.{orVertex};
+ghost use Rattle.projection.specs.Projection.{passedOf};
+ghost use Rattle.oracle_line.specs.Asked.{positionOf};
+use ids::Found;
+use lengths::Point;
+use projection::Cursor;
+use projection::Position;
+
+#[no_mangle]
+pub extern "C" fn zebumorn_length_to(lat: &[f64], lon: &[f64], k: usize) -> f64
+    ensures { λ r. ⌜ r ≡ lengthTo (lineOf (now (lat .entry)) (now (lon .entry))) k ⌝ }
+{
+    lengths::length_to(lat, lon, k)
+}
+
+#[no_mangle]
+pub extern "C" fn zebumorn_forward_shape_index(
+    lat: &[f64],
+    lon: &[f64],
+    from: usize,
+    y: f64,
+    x: f64,
+) -> usize
+    ensures { λ r. ⌜ r ≡ forwardShapeIndex (lineOf (now (lat .entry)) (now (lon .entry))) from (record { lat = y; lon = x }) ⌝ }
+{
+    let stop = Point { lat: y, lon: x };
+    projection::forward_shape_index(lat, lon, from, stop)
+}
+
+#[no_mangle]
+pub extern "C" fn zebumorn_forward_last_index(
+    lat: &[f64],
+    lon: &[f64],
+    from: usize,
+    y: f64,
+    x: f64,
+) -> usize
+    ensures { λ r. ⌜ r ≡ forwardLastIndex (lineOf (now (lat .entry)) (now (lon .entry))) from (record { lat = y; lon = x }) ⌝ }
+{
+    let stop = Point { lat: y, lon: x };
+    projection::forward_last_index(lat, lon, from, stop)
+}
+
+// The stop's position, if it is known.
+fn position(known: bool, lat: f64, lon: f64) -> Position
+    ensures { λ r. ⌜ r ≡ positionOf known lat lon ⌝ }
+{
+    if known {
+        return Position::Known(Point { lat, lon });
+    }
+    Position::Missing
+}
+
+// The vertex, or `other` where there is none.
+fn or_other(found: Found, other: usize) -> usize
+    ensures { λ r. ⌜ r ≡ orVertex found other ⌝ }
+{
+    match found {
+        Found::At(k) => k,
+        Found::Nothing => other,
+    }
+}
+
+// The cursor goes from `at` to the answer; the stop's vertex goes to `vertex`, which stays as it was
+// where the stop has none.
+#[no_mangle]
+pub extern "C" fn zebumorn_pass(
+    lat: &[f64],
+    lon: &[f64],
+    at: usize,
+    known: bool,
+    y: f64,
+    x: f64,
+    vertex: &mut usize,
+) -> usize
+    ensures { λ r. ⌜ r ≡ passedOf (lineOf (now (lat .entry)) (now (lon .entry))) (record { at = at }) (positionOf known y x) .cursor .at ⌝ }
+    ensures { λ _. ⌜ now (vertex .exit) ≡ orVertex (passedOf (lineOf (now (lat .entry)) (now (lon .entry))) (record { at = at }) (positionOf known y x) .vertex) (now (vertex .entry)) ⌝ }
+{
+    let passed = Cursor { at }.pass(lat, lon, position(known, y, x));
+    let found = passed.vertex;
+    *vertex = or_other(found, *vertex);
+    passed.cursor.at
+}

@@ -1,0 +1,95 @@
+//! The port's side of the line: the functions of target/staticlib/liboracle_line.a, on two columns.
+#![allow(dead_code)]
+
+mod names {
+    pub type Index = unsafe extern "C" fn(*const f64, usize, *const f64, usize, usize, f64, f64) -> usize;
+
+    extern "C" {
+        pub fn zebumorn_length_to(lat: *const f64, n: usize, lon: *const f64, m: usize, k: usize) -> f64;
+        pub fn zebumorn_forward_shape_index(
+            lat: *const f64,
+            n: usize,
+            lon: *const f64,
+            m: usize,
+            from: usize,
+            stop_lat: f64,
+            stop_lon: f64,
+        ) -> usize;
+        pub fn zebumorn_forward_last_index(
+            lat: *const f64,
+            n: usize,
+            lon: *const f64,
+            m: usize,
+            from: usize,
+            stop_lat: f64,
+            stop_lon: f64,
+        ) -> usize;
+        pub fn zebumorn_pass(
+            lat: *const f64,
+            n: usize,
+            lon: *const f64,
+            m: usize,
+            at: usize,
+            known: bool,
+            stop_lat: f64,
+            stop_lon: f64,
+            vertex: *mut usize,
+        ) -> usize;
+    }
+}
+
+/// A line as the port is lent it.
+pub struct Columns {
+    lat: Vec<f64>,
+    lon: Vec<f64>,
+}
+
+impl Columns {
+    pub fn of(line: &[(f64, f64)]) -> Columns {
+        let (lat, lon) = line.iter().copied().unzip();
+        Columns { lat, lon }
+    }
+
+    fn index(&self, f: names::Index, from: usize, stop: (f64, f64)) -> usize {
+        unsafe { f(self.lat.as_ptr(), self.lat.len(), self.lon.as_ptr(), self.lon.len(), from, stop.0, stop.1) }
+    }
+
+    pub fn forward_shape_index(&self, from: usize, stop: (f64, f64)) -> usize {
+        self.index(names::zebumorn_forward_shape_index, from, stop)
+    }
+
+    pub fn forward_last_index(&self, from: usize, stop: (f64, f64)) -> usize {
+        self.index(names::zebumorn_forward_last_index, from, stop)
+    }
+
+    pub fn length_to(&self, k: usize) -> f64 {
+        unsafe { names::zebumorn_length_to(self.lat.as_ptr(), self.lat.len(), self.lon.as_ptr(), self.lon.len(), k) }
+    }
+
+    /// The trip's vertices, with the cursor handed on.
+    pub fn project(&self, stops: &[Option<(f64, f64)>]) -> Vec<Option<usize>> {
+        let mut at = 0;
+        stops
+            .iter()
+            .map(|stop| {
+                let (lat, lon) = stop.unwrap_or((7.0, 7.0));
+                let mut vertex = usize::MAX;
+                let (lats, lons) = (&self.lat, &self.lon);
+                at = unsafe {
+                    names::zebumorn_pass(
+                        lats.as_ptr(),
+                        lats.len(),
+                        lons.as_ptr(),
+                        lons.len(),
+                        at,
+                        stop.is_some(),
+                        lat,
+                        lon,
+                        &mut vertex,
+                    )
+                };
+                (vertex != usize::MAX).then_some(vertex)
+            })
+            .collect()
+    }
+}
