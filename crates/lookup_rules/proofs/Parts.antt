@@ -1,10 +1,12 @@
 -- What is so of each part that rows are looked up by where no cause of it is there. A number after `at` is a cause's place in the part's list.
 -- `Rattle.tables.proofs.Facts` has what each kind of fact says, and `counted` for the part's columns and counts.
-use Prim.Native.Nat.{ℕ}
+use Prim.Native.Nat.{ℕ, _<_, _≤_}
+use native.Mathlib.Omega.{arith}
+use mathlib.Core.Path.{refl, sym, subst}
 use mathlib.Core.Bool.{false}
-use lib.ListN.{drop, length}
+use lib.ListN.{drop, length, length-take}
 use Rattle.ids.specs.Pool.{idOf}
-use Rattle.ids.specs.Rows.{Ascending}
+use Rattle.ids.specs.Rows.{Ascending, GoodIds}
 use Rattle.columns.specs.declared.order.Key.the-variants.{IdWord, Dated}
 use Rattle.columns.specs.declared.order.Key.the-variants.{Ids as KeyIds}
 use Rattle.tables.specs.Pools.{Pools}
@@ -17,7 +19,7 @@ use Rattle.tables.specs.declared.lent.IdRows.{IdRows}
 use Rattle.tables.specs.declared.lent.Lines.{Lines}
 use Rattle.tables.specs.declared.lent.Ranges.{Ranges}
 use Rattle.tables.proofs.Passed.{Clear, clear-drop, clear-part}
-use Rattle.tables.proofs.Facts.{Below, below, Dates, dates, Ascend, ascend, by-id, IdsHold, ids-hold, Sized, counted}
+use Rattle.tables.proofs.Facts.{Below, below, Dates, dates, Ascend, ascend, by-id, IdsHold, ids-hold, Sized, counted, all-count, good-ids}
 use Rattle.lookup_rules.specs.Parts.{idRowsCauses, aliasesCauses, linesCauses, calendarsCauses, rangesCauses, exceptionsCauses}
 
 module _ (p : Pools) where
@@ -30,6 +32,10 @@ module _ (p : Pools) where
 
     pub row-ids-ascend : Ascending (idOf (p .bytes) (p .words) (i .id)) (i .row .n)
     row-ids-ascend = by-id p _ _ (at-id-rows 6 .0)
+
+    -- as a search takes them, which has room for 96 bytes
+    pub row-ids-good : b .id ≤ 96 → GoodIds (idOf (p .bytes) (p .words) (i .id)) (i .id .starts .n)
+    row-ids-good s = subst (GoodIds (idOf (p .bytes) (p .words) (i .id))) (sym (row-ids .starts .many)) (good-ids p row-ids refl s row-ids-ascend)
 
     pub rows-below : Below p (i .row) always (i .row .n) records
     rows-below = below p _ _ _ _ (at-id-rows 4 .0) (at-id-rows 7 .0)
@@ -47,12 +53,19 @@ module _ (p : Pools) where
     pub alias-ids-ascend : Ascending (idOf (p .bytes) (p .words) (a .id)) (a .id .starts .n)
     alias-ids-ascend = by-id p _ _ (at-aliases 9 .0)
 
+    pub alias-ids-good : b .id ≤ 96 → GoodIds (idOf (p .bytes) (p .words) (a .id)) (a .id .starts .n)
+    alias-ids-good s = good-ids p alias-ids refl s alias-ids-ascend
+
   module _ (b : Bounds) (l : Lines) (trips : ℕ) (h : Clear p (linesCauses b l trips)) where
     at-lines : (k : ℕ) → Clear p (drop k (linesCauses b l trips))
     at-lines = clear-drop p (linesCauses b l trips) h
 
     pub line-tokens : IdsHold p (l .token) always false (l .trip .n) (b .id)
     line-tokens = ids-hold p _ _ _ _ _ (clear-part p (linesCauses b l trips) h 0 4)
+
+    pub line-tokens-short : b .id ≤ 96 → (k : ℕ) → k < l .trip .n → length (idOf (p .bytes) (p .words) (l .token) k) ≤ 96
+    unfolding idOf
+    line-tokens-short s k h = simp length-take (omega (arith, line-tokens .short k h (all-count p always refl k)))
 
     pub lines-ascend : Ascend p (IdWord (l .token) (l .trip)) (l .trip .n)
     lines-ascend = ascend p _ _ (at-lines 6 .0)

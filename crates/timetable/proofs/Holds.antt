@@ -1,16 +1,14 @@
 -- What the cores may take for granted where nothing is refused. Assumes nothing.
 use Prim.Native.Nat.{ℕ, suc, _+_, _-_, _/_, _%_, _^_, _<_, _≤_}
-use mathlib.Core.Path.{_≡_, refl, sym, subst}
+use mathlib.Core.Path.{_≡_, refl}
 use mathlib.Core.Bool.{Bool, true, false, not, cond}
 use mathlib.Core.List.{List}
 use native.Mathlib.Omega.{arith}
 use borrow.Author.Tests.{ltb-true, ltb-false}
 use lib.Dec.{T, eqb, ltb, leb→le}
 use lib.IntN.{ℤ, pos, negsuc, _+ℤ_}
-use lib.ListN.{getD, length, length-take}
+use lib.ListN.{getD, length}
 use lib.Signed.{leZ}
-use Rattle.ids.specs.Pool.{idOf}
-use Rattle.ids.specs.Rows.{GoodIds}
 use Rattle.ids.specs.declared.pool.Span.{Span}
 use Rattle.ids.proofs.ByteOrder.{clash}
 use Rattle.days.specs.Days.{leap, ordinal}
@@ -23,15 +21,14 @@ use Rattle.tables.specs.Refuse.{always, whereSet, chartBounds, refusalOf}
 use Rattle.tables.specs.declared.lent.Journey.{Journey}
 use Rattle.tables.specs.declared.lent.Service.{Service}
 use Rattle.tables.specs.declared.lent.Tables.{Tables}
-use Rattle.tables.proofs.Facts.{Sized, Counts, all-count, part-at, good-ids}
-use Rattle.lookup_rules.proofs.Parts.{row-ids, row-ids-ascend, alias-ids, alias-ids-ascend, line-tokens, lines-ascend, calendar-feeds-ascend, ranges-ascend, exceptions-ascend, exception-days, exception-dates}
+use Rattle.tables.proofs.Facts.{Sized, Counts, all-count, part-at}
+use Rattle.lookup_rules.proofs.Parts.{row-ids-good, alias-ids-good, line-tokens-short, lines-ascend, calendar-feeds-ascend, ranges-ascend, exceptions-ascend, exception-days, exception-dates}
 use Rattle.asked_rules.proofs.Parts.{journey-departure, journey-departs, journey-offset, journey-departure-between, journey-offset-between}
 use Rattle.checks.specs.Operations.{matchingCauses, serviceDayCauses}
 use Rattle.checks.proofs.Operations.{Calendar, Matching, matching-holds, service-day-holds}
 use Rattle.services.specs.Runs.{Calendared}
 use Rattle.services.proofs.Ascends.{lines-in-order}
 use Rattle.services.proofs.Ascends.{ranges-ascend as by-names, exceptions-ascend as by-day}
-use Rattle.trip_times.specs.Line.{ShortTokens}
 use Rattle.matching.specs.Matching.{Ready}
 use Rattle.matching.specs.Moments.{InReach}
 use Rattle.timetable.specs.Timetable.{namedOf, planOf, timeOf, departsOf, localOf}
@@ -71,26 +68,18 @@ module _ (p : Pools) (t : Tables) where
     held : Matching p chartBounds t j
     held = matching-holds p chartBounds t j e
 
-    tokens-short : ShortTokens (p .bytes) (p .words) (planOf t)
-    unfolding idOf
-    tokens-short = record {
-      short = λ k l. simp length-take (omega (arith, line-tokens p chartBounds _ _ (held .lookup .lines) .short k l (all-count p always refl k)));
-    }
-
     pub ready : Ready (p .bytes) (p .words) (namedOf t) (planOf t)
     ready =
-        let trips = row-ids p chartBounds _ _ _ (held .lookup .trip-ids) in
-        let names = alias-ids p chartBounds _ (held .lookup .aliases) in
         record {
           known = record {
-            trip-ids = subst (GoodIds (idOf (p .bytes) (p .words) (t .tripkeys .id))) (sym (trips .starts .many)) (good-ids p trips refl (omega arith) (row-ids-ascend p chartBounds _ _ _ (held .lookup .trip-ids)));
-            alias-ids = good-ids p names refl (omega arith) (alias-ids-ascend p chartBounds _ (held .lookup .aliases));
+            trip-ids = row-ids-good p chartBounds _ _ _ (held .lookup .trip-ids) (omega arith);
+            alias-ids = alias-ids-good p chartBounds _ (held .lookup .aliases) (omega arith);
           };
           planned = record {
             lines = lines-in-order (p .bytes) (p .words) _ _ _ (lines-ascend p chartBounds _ _ (held .lookup .lines));
             calendars = calendared (held .calendar);
           };
-          short = tokens-short;
+          short = record { short = line-tokens-short p chartBounds _ _ (held .lookup .lines) (omega arith) };
         }
 
     -- where there is a first departure, it counts

@@ -1,4 +1,5 @@
--- `Local`: the first departure in local time. `Holds`: what the cores may take for granted where nothing is refused. `Told`: answers and refusals.
+-- `Local`: the first departure in local time. `Holds`: what the cores may take for granted where nothing is refused. `Clock`: matching never
+-- reads the clock.
 pub mod Local
 pub mod Holds
-pub mod Told
+pub mod Clock

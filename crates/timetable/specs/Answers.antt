@@ -1,10 +1,9 @@
 -- What the operations answer, in document 01's terms: the first refusal that applies, its number alone, or the value.
-use Prim.Native.Nat.{ℕ}
-use mathlib.Core.Bool.{Bool, true, false, cond}
-use lib.Dec.{eqb}
+use mathlib.Core.Bool.{Bool, true, false}
 use Rattle.ids.specs.declared.lookup.Found.{Found}
 use Rattle.ids.specs.declared.lookup.Found.the-variants.{At, Nothing}
 use Rattle.measure.specs.Answer.{Answer, refused, given}
+use Rattle.answers.specs.Answers.{unlessRefused}
 use Rattle.tables.specs.Pools.{Pools}
 use Rattle.tables.specs.Refuse.{chartBounds, refusalOf}
 use Rattle.tables.specs.declared.lent.Journey.{Journey}
@@ -16,10 +15,6 @@ use Rattle.timetable.specs.declared.matched.Matched.{Matched}
 use Rattle.timetable.specs.declared.matched.Matched.the-variants.{Trip, Nothing as NoTrip, Refused}
 use Rattle.timetable.specs.declared.running.Running.{Running}
 use Rattle.timetable.specs.declared.running.Running.the-variants.{Runs, Rests, Refused as Denied}
-
--- a refusal's number, or, where there is none, the value
-abbrev pub unlessRefused : {A : Type 0} → ℕ → A → Answer A
-unlessRefused n x = cond (eqb n 0) (given x) (refused n)
 
 -- the number and the value of each case
 abbrev pub matchAnswer : Matched → Answer Found

@@ -3,7 +3,7 @@ use mathlib.Core.Path.{_∙_, sym}
 use Rattle.tables.specs.Pools.{pools}
 use Rattle.timetable.specs.Answers.{matchedOf}
 use Rattle.timetable.proofs.Holds.{ready, local-in-reach}
-use Rattle.timetable.proofs.Told.{told, denied}
+use Rattle.answers.proofs.Told.{told, denied}
 use Rattle.timetable.proofs.matched.match_trip.Statement.{statement}
 use Rattle.timetable.proofs.matched.match_trip.Tie as tie
 use Rattle.checks.proofs.check_matching.Reads as check-matching-reads

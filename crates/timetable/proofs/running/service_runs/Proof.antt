@@ -4,7 +4,7 @@ use Rattle.tables.specs.Pools.{pools}
 use Rattle.measure.specs.Answer.{given}
 use Rattle.timetable.specs.Answers.{runningOf}
 use Rattle.timetable.proofs.Holds.{service-ready}
-use Rattle.timetable.proofs.Told.{told, denied}
+use Rattle.answers.proofs.Told.{told, denied}
 use Rattle.timetable.proofs.running.service_runs.Statement.{statement}
 use Rattle.timetable.proofs.running.service_runs.Tie as tie
 use Rattle.checks.proofs.check_service.Reads as check-service-reads

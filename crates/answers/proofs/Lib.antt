@@ -1,0 +1,2 @@
+-- `Told`: answers where nothing is refused, and refusals.
+pub mod Told

@@ -1,0 +1,2 @@
+-- `Answers`: a refusal or the value, and what is written.
+pub mod Answers

@@ -1,0 +1,3 @@
+-- `Vertices`: the vertices of a trip's stops, as words. `Answers`: the operation, with its refusals.
+pub mod Vertices
+pub mod Answers
