@@ -1,0 +1,2 @@
+-- `Refusals`: which refusal applies.
+pub mod Refusals

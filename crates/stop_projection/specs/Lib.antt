@@ -1,0 +1,2 @@
+-- `Step`: the cursor's step as an operation.
+pub mod Step
