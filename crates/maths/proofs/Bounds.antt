@@ -29,7 +29,7 @@ pub record InUnit (t : Float) : Type 0 where
   pub low : T (le nought t)
   pub high : T (le t one)
 
-unit-within : {t : Float} → InUnit t → Within 1 t
+pub unit-within : {t : Float} → InUnit t → Within 1 t
 unit-within {t} u = le→within binary64 1 t (lit≤ tt) (u .low) (rw (int-one binary64) (u .high))
 
 within-unit : {t : Float} → T (le nought t) → Within 1 t → InUnit t
@@ -40,7 +40,7 @@ unit-square {t} u = let h = unit-within u in within-unit (square-nonneg binary64
 
 -- ---- Horner sums whose coefficients are within 1
 module _ (c : ℕ → Float) (small : (j : ℕ) → Within 1 (c j)) (z : Float) (u : InUnit z) where
-  on-within : (k : ℕ) {n : ℕ} {acc : Float} → k + n ≤ 2 ^ 53 → Within n acc → Within (k + n) (onFrom c z k acc)
+  pub on-within : (k : ℕ) {n : ℕ} {acc : Float} → k + n ≤ 2 ^ 53 → Within n acc → Within (k + n) (onFrom c z k acc)
   unfolding onFrom
   on-within zero N h = within-weaken (omega arith) h
   on-within (suc k) {n} N h =
@@ -57,7 +57,7 @@ unfolding signOf
 sign-within zero = int-within binary64 1 (lit≤ tt)
 sign-within (suc j) = within-neg (sign-within j)
 
-coefficient-within : (j : ℕ) → Within 1 (atanC j)
+pub coefficient-within : (j : ℕ) → Within 1 (atanC j)
 unfolding atanC
 coefficient-within j = within-div binary64 (whole (2 * j + 1)) (lit≤ tt) (sign-within j) (int-ge-one binary64 (2 * j + 1) (omega arith))
 

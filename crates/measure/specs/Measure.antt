@@ -24,9 +24,11 @@ haversinOf lat1 lon1 lat2 lon2 =
     (mul binary64 (mul binary64 (cosOf (radiansOf lat1)) (cosOf (radiansOf lat2))) (square (halfSine lon1 lon2)))
 
 -- metres, as rt/estimate.rs has it: 2.0 * R * a.sqrt().asin()
+abbrev pub wayOf : Float → Float
+wayOf a = mul binary64 (mul binary64 (whole 2) radius) (asinOf (rootOf a))
+
 unfoldable pub haversineOf : Float → Float → Float → Float → Float
-haversineOf lat1 lon1 lat2 lon2 =
-    mul binary64 (mul binary64 (whole 2) radius) (asinOf (rootOf (haversinOf lat1 lon1 lat2 lon2)))
+haversineOf lat1 lon1 lat2 lon2 = wayOf (haversinOf lat1 lon1 lat2 lon2)
 
 -- metres, as link/geo.rs has it: R * (2.0 * a.sqrt().asin())
 unfoldable pub geoHaversineOf : Float → Float → Float → Float → Float

@@ -3,10 +3,10 @@
 // routing/geometry.rs, which are one function.
 //
 // Published: `haversine_m` and `bearing_deg`, with refusal 3. `haversine` and `bearing` are the same
-// for callers that have tested their positions.
+// for callers that have tested their positions, and `way` of `haversin` is `haversine` in two steps.
 mod answer; // answer.rt: haversine_m, bearing_deg
 mod globe; // globe.rt: the globe's radius, and which positions are on it
-mod sphere; // sphere.rt: haversine, bearing
+mod sphere; // sphere.rt: haversine and its two steps, bearing
 
 pub use answer::Measured;
 pub use answer::bearing_deg;
@@ -14,4 +14,6 @@ pub use answer::haversine_m;
 pub use globe::Globe;
 pub use globe::on_globe;
 pub use sphere::bearing;
+pub use sphere::haversin;
 pub use sphere::haversine;
+pub use sphere::way;
