@@ -10,8 +10,8 @@ use Rattle.ids.specs.declared.lookup.Found.{Found}
 use Rattle.ids.specs.declared.lookup.Found.the-variants.{At, Nothing}
 use Rattle.ids.proofs.ByteOrder.{clash}
 use Rattle.lengths.specs.declared.line.Point.{Point}
-use Rattle.projection.specs.Near.{distancesOf, leastIn, firstWithin, lastWithin, startOf, orElse, orVertex}
-use Rattle.projection.specs.Forward.{slack, pickFrom, forwardShapeIndex, forwardLastIndex}
+use Rattle.projection.specs.Near.{slack, distancesOf, leastIn, firstWithin, lastWithin, startOf, orElse, orVertex}
+use Rattle.projection.specs.Forward.{pickFrom, forwardShapeIndex, forwardLastIndex}
 use Rattle.projection.specs.Projection.{stepOf, passedOf, projectionFrom}
 use Rattle.projection.specs.declared.cursor.Cursor.{Cursor}
 use Rattle.projection.specs.declared.cursor.Position.{Position}

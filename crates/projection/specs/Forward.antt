@@ -4,13 +4,8 @@ use mathlib.Core.List.{List}
 use lib.Ieee.{Float, binary64, add}
 use lib.ListN.{drop}
 use Rattle.ids.specs.declared.lookup.Found.{Found}
-use Rattle.maths.specs.Series.{whole}
 use Rattle.lengths.specs.declared.line.Point.{Point}
-use Rattle.projection.specs.Near.{distancesOf, leastIn, firstWithin, lastWithin, startOf, orVertex}
-
--- by how many metres a vertex may be farther from a stop than the nearest
-abbrev pub slack : Float
-slack = whole 25
+use Rattle.projection.specs.Near.{slack, distancesOf, leastIn, firstWithin, lastWithin, startOf, orVertex}
 
 -- of the vertices from `at` on, the one that `pick` takes of those within the slack of the least distance, or else `at`
 abbrev pub pickFrom : (Float → ℕ → List Float → Found) → List Point → ℕ → Point → ℕ

@@ -4,33 +4,41 @@ use native.Mathlib.Omega.{arith}
 use mathlib.Core.Path.{_≡_, refl, sym, _∙_}
 use mathlib.Core.List.{foldl}
 use lib.Ieee.{div, ofBits}
-use lib.ListN.{length, drop}
+use lib.ListN.{drop}
 use Rattle.ieee.specs.Number.{leastOf}
 use Rattle.lengths.specs.Line.{lineOf}
-use Rattle.projection.specs.Near.{distancesOf, leastIn}
+use Rattle.reach.proofs.Past.{past-infinity}
+use Rattle.projection.specs.Near.{Near, distancesOf, leastIn}
 use Rattle.projection.proofs.Search.{least-next, least-over}
+use Rattle.projection.proofs.Skip.{metres-way}
 use Rattle.projection.proofs.near.least_from.Statement.{statement}
 use Rattle.projection.proofs.near.least_from.Tie as tie
 
 abbrev Inv-loop : tie.InvT-loop
-Inv-loop lat lon stop from n best₀ k₀ best k =
-    leastIn (distancesOf stop (drop from (lineOf lat lon))) ≡ foldl leastOf best (distancesOf stop (drop k (lineOf lat lon)))
+Inv-loop lat lon stop from n c near₀ k₀ near k =
+    (leastIn (distancesOf stop (drop from (lineOf lat lon))) ≡ foldl leastOf (near .best) (distancesOf stop (drop k (lineOf lat lon)))) × Near near
 
 abbrev μ-loop : tie.MeasureT-loop
-μ-loop lat lon stop from n best₀ k₀ best k = n - k
+μ-loop lat lon stop from n c near₀ k₀ near k = n - k
 
 vertices-requires : tie.Need-vertices-requires Inv-loop μ-loop
 vertices-requires c κs = tt
 
+radians-requires : tie.Need-radians-requires Inv-loop μ-loop
+radians-requires c κs = tt
+
+cos-requires : tie.Need-cos-requires Inv-loop μ-loop
+cos-requires c κs = tt
+
 loop-holds : tie.Need-loop-holds Inv-loop μ-loop
 unfolding leastIn div ofBits
-loop-holds c = refl
+loop-holds c = (refl, record { beyond = past-infinity _ })
 
-away-requires : tie.Need-away-requires Inv-loop μ-loop
-away-requires c κs = omega (arith, c .before .before .vertices .ensures)
+aside-requires : tie.Need-aside-requires Inv-loop μ-loop
+aside-requires c κs = let s = c .before .before in (omega (arith, s .before .before .vertices .ensures), rw (s .cos .ensures, s .before .radians .ensures))
 
-least-requires : tie.Need-least-requires Inv-loop μ-loop
-least-requires c κs = tt
+nearer-requires : tie.Need-nearer-requires Inv-loop μ-loop
+nearer-requires c κs = c .before .before .loop .inv .1
 
 add-k : tie.Need-add-k Inv-loop μ-loop
 add-k c = omega arith
@@ -41,12 +49,12 @@ loop-less c = omega arith
 loop-again : tie.Need-loop-again Inv-loop μ-loop
 loop-again c =
     let l = c .before .before .before in
-    rw (c .least .ensures, c .before .away .ensures) (l .loop .inv ∙ least-next _ _ (l .loop .best) (l .loop .k) (omega (arith, l .before .vertices .ensures)))
+    (rw (c .nearer .ensures .0, c .before .aside .ensures, ← metres-way) (l .loop .inv .0 ∙ least-next _ _ (l .loop .near .best) (l .loop .k) (omega (arith, l .before .before .before .vertices .ensures))), c .nearer .ensures .1)
 
 returns : tie.Need-returns Inv-loop μ-loop
 returns c =
     let l = c .before in
-    sym (l .loop .inv ∙ least-over _ _ (l .loop .best) (l .loop .k) (omega (arith, l .before .vertices .ensures)))
+    sym (l .loop .inv .0 ∙ least-over _ _ (l .loop .near .best) (l .loop .k) (omega (arith, l .before .before .before .vertices .ensures)))
 
 pub least-from-spec : {M : Type 1} → statement M
 least-from-spec =
@@ -55,9 +63,11 @@ least-from-spec =
     Inv-loop
     μ-loop
     vertices-requires
+    radians-requires
+    cos-requires
     loop-holds
-    away-requires
-    least-requires
+    aside-requires
+    nearer-requires
     add-k
     loop-less
     loop-again
