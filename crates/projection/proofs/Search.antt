@@ -51,6 +51,18 @@ module _ (stop : Point) (line : List Point) where
     unfolding firstWithin
     first-over k h = rw (past-all k h)
 
+    -- those that are not are passed over
+    pub first-skip : (c at : ℕ) → ((j : ℕ) → at ≤ j → j < at + c → le (metresOf stop (getD line j nowhere)) most ≡ false) →
+        firstWithin most at (distancesOf stop (drop at line)) ≡ firstWithin most (at + c) (distancesOf stop (drop (at + c) line))
+    first-skip zero at h = let e : at ≡ at + 0 = omega arith in rw (← e)
+    first-skip (suc c) at h =
+        let e : at + suc c ≡ at + 1 + c = omega arith in
+        rw e (⊎-elim (λ t. first-miss at (ltb-true at (length line) t) (h at (omega arith) (omega arith))) (λ f. over (ltb-false at (length line) f)) (split (ltb at (length line)))
+        ∙ first-skip c (at + 1) (λ j a b. h j (omega arith) (omega arith)))
+      where
+        over : length line ≤ at → firstWithin most at (distancesOf stop (drop at line)) ≡ firstWithin most (at + 1) (distancesOf stop (drop (at + 1) line))
+        over l = first-over at l ∙ sym (first-over (at + 1) (omega arith))
+
     -- the last: none from vertex k on is small enough
     abbrev pub NoneFrom : ℕ → Type 0
     NoneFrom k = lastWithin most k (distancesOf stop (drop k line)) ≡ Nothing

@@ -6,7 +6,6 @@ use lib.Ieee.{Float, binary64, ofInt, add, mul, lt, eq, le, fits}
 use lib.Ieee.Fits.{mul-fits}
 use Rattle.floats.proofs.Order.{nought, number, lt-le, trans-le, le-number-left, le-number-right}
 use Rattle.floats.proofs.Sums.{add-number-right, add-up, add-mono}
-use Rattle.ieee.specs.Number.{leastOf}
 use Rattle.measure.specs.Measure.{haversineOf, wayOf}
 use Rattle.lengths.specs.Line.{metresOf}
 use Rattle.lengths.specs.declared.line.Point.{Point}
@@ -16,6 +15,10 @@ use Rattle.projection.specs.Near.{slack, asideOf}
 pub metres-way : (stop v : Point) → metresOf stop v ≡ wayOf (asideOf stop v)
 unfolding haversineOf
 metres-way stop v = refl
+
+pub metres-fits : (stop v : Point) → T (fits binary64 (metresOf stop v))
+unfolding haversineOf
+metres-fits stop v = mul-fits binary64 _ _
 
 no : (b : Bool) → (T b → ⊥) → b ≡ false
 no true h = absurd (h tt)
@@ -32,13 +35,5 @@ not-less d best F e = no (lt d best) (λ (h : T (lt d best)). below (lt-le d bes
         let k : T (le nought slack) = unfold le lt eq in tt in
         rw e at (trans-le d (add binary64 d slack) (add binary64 best slack) (add-up binary64 d slack F k a) (add-mono binary64 d best slack a b l))
 
-pub least-other : (best d : Float) → lt d best ≡ false → best ≡ leastOf best d
-unfolding leastOf
-least-other best d e = rw e
-
-pub least-this : (best d : Float) → lt d best ≡ true → d ≡ leastOf best d
-unfolding leastOf
-least-this best d e = rw e
-
-pub least-skipped : (best a : Float) → le (wayOf a) (add binary64 best slack) ≡ false → best ≡ leastOf best (wayOf a)
-least-skipped best a e = least-other best (wayOf a) (not-less (wayOf a) best (mul-fits binary64 _ _) e)
+pub skipped : (best a : Float) → le (wayOf a) (add binary64 best slack) ≡ false → lt (wayOf a) best ≡ false
+skipped best a e = not-less (wayOf a) best (mul-fits binary64 _ _) e

@@ -7,10 +7,14 @@ use Rattle.ids.specs.declared.lookup.Found.{Found}
 use Rattle.lengths.specs.declared.line.Point.{Point}
 use Rattle.projection.specs.Near.{slack, distancesOf, leastIn, firstWithin, lastWithin, startOf, orVertex}
 
--- of the vertices from `at` on, the one that `pick` takes of those within the slack of the least distance, or else `at`
+-- of the vertices from `at` on, the one that `pick` takes of those within the slack of the least distance
+abbrev pub nearOf : (Float → ℕ → List Float → Found) → List Point → ℕ → Point → Found
+nearOf pick line at stop =
+    let ds = distancesOf stop (drop at line) in pick (add binary64 (leastIn ds) slack) at ds
+
+-- that, or else `at`
 abbrev pub pickFrom : (Float → ℕ → List Float → Found) → List Point → ℕ → Point → ℕ
-pickFrom pick line at stop =
-    let ds = distancesOf stop (drop at line) in orVertex (pick (add binary64 (leastIn ds) slack) at ds) at
+pickFrom pick line at stop = orVertex (nearOf pick line at stop) at
 
 -- the first such vertex from `from` on
 unfoldable pub forwardShapeIndex : List Point → ℕ → Point → ℕ

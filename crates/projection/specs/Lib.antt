@@ -1,5 +1,6 @@
--- What the contracts cite. `Near`: distances from a stop, their least, and the first and last that are small enough. `Forward`: the vertex that a stop lies at.
+-- What the contracts cite. `Near`: distances from a stop, their least, and the first and last that are small enough. `Nearest`: what a search for the least remembers. `Forward`: the vertex that a stop lies at.
 -- `Projection`: the cursor, and the vertices of a trip's stops.
 pub mod Near
+pub mod Nearest
 pub mod Forward
 pub mod Projection

@@ -2,17 +2,15 @@
 use Prim.Native.Nat.{ℕ, suc, _-_, min}
 use mathlib.Core.Bool.{false, cond}
 use mathlib.Core.List.{List, [], _∷_, foldl}
-use lib.Ieee.{Float, inf, le, binary64, add}
-use lib.ListN.{length}
+use lib.Ieee.{Float, inf, le}
+use lib.ListN.{length, getD}
 use Rattle.ids.specs.declared.lookup.Found.{Found}
 use Rattle.ids.specs.declared.lookup.Found.the-variants.{At, Nothing}
 use Rattle.ieee.specs.Number.{leastOf}
-use Rattle.lengths.specs.Line.{metresOf}
+use Rattle.lengths.specs.Line.{metresOf, nowhere}
 use Rattle.maths.specs.Series.{whole}
 use Rattle.measure.specs.Measure.{haversinOf}
-use Rattle.reach.specs.Reach.{Beyond}
 use Rattle.lengths.specs.declared.line.Point.{Point}
-use Rattle.projection.specs.declared.near.Nearest.{Nearest}
 
 -- by how many metres a vertex may be farther from a stop than the nearest
 abbrev pub slack : Float
@@ -22,6 +20,11 @@ slack = whole 25
 abbrev pub asideOf : Point → Point → Float
 asideOf stop v = haversinOf (stop .lat) (stop .lon) (v .lat) (v .lon)
 
+-- the distance of vertex k
+abbrev pub distanceOf : Point → List Point → ℕ → Float
+distanceOf stop line k = metresOf stop (getD line k nowhere)
+
+-- those of all
 unfoldable pub distancesOf : Point → List Point → List Float
 distancesOf stop [] = []
 distancesOf stop (v ∷ line) = metresOf stop v ∷ distancesOf stop line
@@ -53,7 +56,3 @@ startOf line from = min from (length line - 1)
 abbrev pub orVertex : Found → ℕ → ℕ
 orVertex (At k) other = k
 orVertex Nothing other = other
-
--- past its limit no distance is within the slack of the least
-pub record Near (near : Nearest) : Type 0 where
-  pub beyond : Beyond (add binary64 (near .best) slack) (near .limit)

@@ -2,12 +2,12 @@
 // the first, or the last, that is no more than the slack farther than the nearest.
 ghost use mathlib.Core.Path.{_≡_};
 ghost use Rattle.lengths.specs.Line.{lineOf};
-ghost use Rattle.projection.specs.Near.{orVertex, startOf};
-ghost use Rattle.projection.specs.Forward.{forwardShapeIndex, forwardLastIndex};
+ghost use Rattle.projection.specs.Near.{firstWithin, lastWithin, orVertex, startOf};
+ghost use Rattle.projection.specs.Forward.{forwardLastIndex, forwardShapeIndex, nearOf};
 use crate::cursor::Cursor;
 use crate::near::first_within;
 use crate::near::last_within;
-use crate::near::least_from;
+use crate::nearest::sweep;
 use ids::Found;
 use lengths::Point;
 use lengths::vertices;
@@ -37,14 +37,34 @@ fn or_vertex(found: Found, from: usize) -> usize
     }
 }
 
+// The first vertex within the slack of the least distance. Where it is the one marked, no vertex is
+// looked at again.
+fn first_near(lat: &[f64], lon: &[f64], stop: Point, at: usize) -> Found
+    ensures { λ r. ⌜ r ≡ nearOf firstWithin (lineOf (now (lat .entry)) (now (lon .entry))) at stop ⌝ }
+{
+    let near = sweep(lat, lon, stop, at);
+    let from = near.from;
+    if near.upto - from == 1 {
+        return Found::At(from);
+    }
+    first_within(lat, lon, stop, from, near.best + Cursor::SLACK)
+}
+
+// The last.
+fn last_near(lat: &[f64], lon: &[f64], stop: Point, at: usize) -> Found
+    ensures { λ r. ⌜ r ≡ nearOf lastWithin (lineOf (now (lat .entry)) (now (lon .entry))) at stop ⌝ }
+{
+    let near = sweep(lat, lon, stop, at);
+    last_within(lat, lon, stop, at, near.best + Cursor::SLACK)
+}
+
 // The first vertex from `from` on within the slack of the least distance; `from`, brought down to the
 // last vertex, where every distance is NaN.
 pub fn forward_shape_index(lat: &[f64], lon: &[f64], from: usize, stop: Point) -> usize
     ensures { λ r. ⌜ r ≡ forwardShapeIndex (lineOf (now (lat .entry)) (now (lon .entry))) from stop ⌝ }
 {
     let at = start(lat, lon, from);
-    let most = least_from(lat, lon, stop, at) + Cursor::SLACK;
-    or_vertex(first_within(lat, lon, stop, at, most), at)
+    or_vertex(first_near(lat, lon, stop, at), at)
 }
 
 // The last: for the end of a trip on a line that ends where it starts.
@@ -52,6 +72,5 @@ pub fn forward_last_index(lat: &[f64], lon: &[f64], from: usize, stop: Point) ->
     ensures { λ r. ⌜ r ≡ forwardLastIndex (lineOf (now (lat .entry)) (now (lon .entry))) from stop ⌝ }
 {
     let at = start(lat, lon, from);
-    let most = least_from(lat, lon, stop, at) + Cursor::SLACK;
-    or_vertex(last_within(lat, lon, stop, at, most), at)
+    or_vertex(last_near(lat, lon, stop, at), at)
 }
