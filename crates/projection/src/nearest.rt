@@ -28,8 +28,19 @@ pub struct Nearest {
     pub mark: f64,
 }
 
-// With the vertex before `next`, whose distance is the way of a.
-fn nearer(near: Nearest, a: f64, next: usize) -> Nearest
+// A limit past which no way is as short as `most`, where so many vertices are left that it is worth
+// its root.
+fn far(most: f64, left: usize) -> f64
+    ensures { λ r. ⌜ Beyond most r ⌝ }
+{
+    if left < 3 {
+        return 1.0 / 0.0;
+    }
+    limit(most)
+}
+
+// With the vertex before `next`, whose distance is the way of a; so many are left.
+fn nearer(near: Nearest, a: f64, next: usize, left: usize) -> Nearest
     requires { ⌜ Beyond (boundOf near) (near .limit) ⌝ }
     ensures next { λ r. ⌜ r ≡ nextOf near (wayOf a) next (r .limit) ⌝ }
     ensures beyond { λ r. ⌜ Beyond (boundOf r) (r .limit) ⌝ }
@@ -43,7 +54,7 @@ fn nearer(near: Nearest, a: f64, next: usize) -> Nearest
         if near.mark <= most {
             return Nearest {
                 best: d,
-                limit: limit(most),
+                limit: far(most, left),
                 from: near.from,
                 upto: near.upto,
                 mark: near.mark,
@@ -51,7 +62,7 @@ fn nearer(near: Nearest, a: f64, next: usize) -> Nearest
         }
         return Nearest {
             best: d,
-            limit: limit(most),
+            limit: far(most, left),
             from: near.upto,
             upto: next,
             mark: d,
@@ -78,7 +89,8 @@ pub fn sweep(lat: &[f64], lon: &[f64], stop: Point, at: usize) -> Nearest
     while k < n {
         let a = aside(lat, lon, stop, c, k);
         k += 1;
-        near = nearer(near, a, k);
+        let left = n - k;
+        near = nearer(near, a, k, left);
     }
     near
 }

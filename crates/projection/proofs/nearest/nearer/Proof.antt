@@ -17,25 +17,25 @@ returns c =
 way-requires : tie.Need-way-requires
 way-requires c κs = tt
 
-limit-requires : tie.Need-limit-requires
-limit-requires c κs = tt
+far-requires : tie.Need-far-requires
+far-requires c κs = tt
 
 returns-2 : tie.Need-returns-2
 unfolding ofBits ofInt
 returns-2 c =
     let t = c .before .before .before in
     let w = t .before .before in
-    (rw (← w .way .ensures) (next-kept (w .before .before .before .args .near) (w .way .result) _ _ (t .if2 .taken) (c .before .if3 .taken)), c .limit .ensures)
+    (rw (← w .way .ensures) (next-kept (w .before .before .before .args .near) (w .way .result) _ _ (t .if2 .taken) (c .before .if3 .taken)), c .far .ensures)
 
-limit-requires-2 : tie.Need-limit-requires-2
-limit-requires-2 c κs = tt
+far-requires-2 : tie.Need-far-requires-2
+far-requires-2 c κs = tt
 
 returns-3 : tie.Need-returns-3
 unfolding ofBits ofInt
 returns-3 c =
     let t = c .before .before .before in
     let w = t .before .before in
-    (rw (← w .way .ensures) (next-marked (w .before .before .before .args .near) (w .way .result) _ _ (t .if2 .taken) (c .before .if3 .left)), c .limit2 .ensures)
+    (rw (← w .way .ensures) (next-marked (w .before .before .before .args .near) (w .way .result) _ _ (t .if2 .taken) (c .before .if3 .left)), c .far2 .ensures)
 
 returns-4 : tie.Need-returns-4
 returns-4 c =
@@ -45,4 +45,4 @@ returns-4 c =
 
 pub nearer-spec : {M : Type 1} → statement M
 nearer-spec =
-    tie.close (tie.spec is-beyond-requires returns way-requires limit-requires returns-2 limit-requires-2 returns-3 returns-4)
+    tie.close (tie.spec is-beyond-requires returns way-requires far-requires returns-2 far-requires-2 returns-3 returns-4)

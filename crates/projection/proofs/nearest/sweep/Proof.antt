@@ -48,6 +48,9 @@ aside-requires c κs = let s = c .before .before in (omega (arith, s .before .be
 add-k : tie.Need-add-k Inv-loop μ-loop
 add-k c = omega arith
 
+sub-left : tie.Need-sub-left Inv-loop μ-loop
+sub-left c = omega arith
+
 nearer-requires : tie.Need-nearer-requires Inv-loop μ-loop
 nearer-requires c κs = c .before .before .loop .inv .4
 
@@ -78,6 +81,7 @@ sweep-spec =
     loop-holds
     aside-requires
     add-k
+    sub-left
     nearer-requires
     loop-less
     loop-again
