@@ -1,0 +1,3 @@
+-- What the contracts cite. `Scale`: the units of distance, and the one that a ratio is near. `Affine`: the metres that a feed's distances stand for.
+pub mod Scale
+pub mod Affine
