@@ -1,9 +1,33 @@
--- A stop's position, as a caller in C says it. Definitions only.
+-- What a caller in C asks and is told. Definitions only.
 use mathlib.Core.Bool.{Bool, true, false}
+use mathlib.Core.List.{List}
 use lib.Ieee.{Float}
+use Rattle.lengths.specs.Line.{lineOf}
 use Rattle.projection.specs.declared.cursor.Position.{Position}
 use Rattle.projection.specs.declared.cursor.Position.the-variants.{Known, Missing}
+use Rattle.calibration.specs.Affine.{shapeDistAffine}
+use Rattle.calibration.specs.declared.affine.Calibrated.{Calibrated}
+use Rattle.calibration.specs.declared.affine.Calibrated.the-variants.{By, Nothing}
 
+-- a stop's position
 abbrev pub positionOf : Bool → Float → Float → Position
 positionOf true lat lon = Known (record { lat = lat; lon = lon })
 positionOf false lat lon = Missing
+
+-- the calibration of a line by two samples, each a position and a distance
+abbrev pub affineAsked : List Float → List Float → Float → Float → Float → Float → Float → Float → Calibrated
+affineAsked lat lon y0 x0 d0 y1 x1 d1 =
+    shapeDistAffine (lineOf lat lon) (record { at = record { lat = y0; lon = x0 }; dist = d0 }) (record { at = record { lat = y1; lon = x1 }; dist = d1 })
+
+-- there is an answer; its start and its scale, or what was there before
+abbrev pub isBy : Calibrated → Bool
+isBy (By f) = true
+isBy Nothing = false
+
+abbrev pub startOr : Calibrated → Float → Float
+startOr (By f) old = f .a
+startOr Nothing old = old
+
+abbrev pub scaleOr : Calibrated → Float → Float
+scaleOr (By f) old = f .b
+scaleOr Nothing old = old

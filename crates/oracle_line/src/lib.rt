@@ -1,4 +1,4 @@
-// The C names under which tools/oracle holds lengths and the projection beside the Rust. Each says no
+// The C names under which tools/oracle holds lengths, the projection and calibration beside the Rust. Each says no
 // more than the function that it calls.
 ghost use mathlib.Core.Path.{_≡_};
 ghost use Rattle.lengths.specs.Length.{lengthTo};
@@ -6,7 +6,10 @@ ghost use Rattle.lengths.specs.Line.{lineOf};
 ghost use Rattle.projection.specs.Forward.{forwardLastIndex, forwardShapeIndex};
 ghost use Rattle.projection.specs.Near.{orVertex};
 ghost use Rattle.projection.specs.Projection.{passedOf};
-ghost use Rattle.oracle_line.specs.Asked.{positionOf};
+ghost use Rattle.calibration.specs.Scale.{snapUnitScale};
+ghost use Rattle.oracle_line.specs.Asked.{affineAsked, isBy, positionOf, scaleOr, startOr};
+use calibration::Calibrated;
+use calibration::Sample;
 use ids::Found;
 use lengths::Point;
 use projection::Cursor;
@@ -86,4 +89,47 @@ pub extern "C" fn zebumorn_pass(
     let found = passed.vertex;
     *vertex = or_other(found, *vertex);
     passed.cursor.at
+}
+
+#[no_mangle]
+pub extern "C" fn zebumorn_snap_unit_scale(ratio: f64) -> f64
+    ensures { λ r. ⌜ r ≡ snapUnitScale ratio ⌝ }
+{
+    calibration::snap_unit_scale(ratio)
+}
+
+// The start and the scale go to `a` and `b`, which stay as they were where there is no answer.
+#[no_mangle]
+pub extern "C" fn zebumorn_shape_dist_affine(
+    lat: &[f64],
+    lon: &[f64],
+    y0: f64,
+    x0: f64,
+    d0: f64,
+    y1: f64,
+    x1: f64,
+    d1: f64,
+    a: &mut f64,
+    b: &mut f64,
+) -> bool
+    ensures { λ r. ⌜ r ≡ isBy (affineAsked (now (lat .entry)) (now (lon .entry)) y0 x0 d0 y1 x1 d1) ⌝ }
+    ensures { λ _. ⌜ now (a .exit) ≡ startOr (affineAsked (now (lat .entry)) (now (lon .entry)) y0 x0 d0 y1 x1 d1) (now (a .entry)) ⌝ }
+    ensures { λ _. ⌜ now (b .exit) ≡ scaleOr (affineAsked (now (lat .entry)) (now (lon .entry)) y0 x0 d0 y1 x1 d1) (now (b .entry)) ⌝ }
+{
+    let first = Sample {
+        at: Point { lat: y0, lon: x0 },
+        dist: d0,
+    };
+    let last = Sample {
+        at: Point { lat: y1, lon: x1 },
+        dist: d1,
+    };
+    match calibration::shape_dist_affine(lat, lon, first, last) {
+        Calibrated::By(affine) => {
+            *a = affine.a;
+            *b = affine.b;
+            true
+        }
+        Calibrated::Nothing => false,
+    }
 }

@@ -1,5 +1,6 @@
 -- Document 01's cases, by computing the definitions.
 use mathlib.Core.Path.{refl}
+use lib.Ieee.{ofInt, sub, div, lt, le}
 use Rattle.ids.specs.Bytes.{upperOf}
 use Rattle.ids.specs.Cmp.{equal}
 use Rattle.ids.specs.First.{first, last}
@@ -7,11 +8,13 @@ use Rattle.ids.specs.Texts.{firstByte, firstPlace, lastByte, keptOf, prefixOf, 
 use Rattle.days.specs.Days.{leap, yearDays, monthDays, daysBeforeMonth, daysBeforeYear, isDate, ordinal, dayOf, weekdayOf}
 use Rattle.days.specs.Read.{readDateOf}
 use Rattle.columns.specs.Rows.{some}
+use Rattle.ieee.specs.Number.{absOf}
+use Rattle.calibration.specs.Scale.{decimal, firstNear, nearUnit}
 use Rattle.refs.specs.Refs.{journeyIdOf, afterColons, afterParts, afterKind, isKind, withoutLocPart}
 use Rattle.refs.specs.Stops.{stopDigitsOf, digitsFirst, digitsLast, markedDigits}
 use Rattle.trip_times.specs.Line.{bestOf, beside, isCrowded}
 use Rattle.soundings.specs.Soundings.{Soundings}
 
 pub soundings : Soundings
-unfolding leap yearDays monthDays daysBeforeMonth daysBeforeYear isDate ordinal dayOf weekdayOf readDateOf journeyIdOf afterColons afterParts afterKind isKind withoutLocPart stopDigitsOf digitsFirst digitsLast markedDigits firstByte firstPlace lastByte keptOf prefixOf runOf suffixOf trimmedTimes first last equal upperOf bestOf beside isCrowded some
-soundings = (refl, refl, refl, refl, refl, refl, refl, refl, refl, refl, refl, refl, refl, refl, refl, refl, refl)
+unfolding leap yearDays monthDays daysBeforeMonth daysBeforeYear isDate ordinal dayOf weekdayOf readDateOf ofInt sub div lt le absOf decimal nearUnit firstNear journeyIdOf afterColons afterParts afterKind isKind withoutLocPart stopDigitsOf digitsFirst digitsLast markedDigits firstByte firstPlace lastByte keptOf prefixOf runOf suffixOf trimmedTimes first last equal upperOf bestOf beside isCrowded some
+soundings = (refl, refl, refl, refl, refl, refl, refl, refl, refl, refl, refl, refl, refl, refl, refl, refl, refl, refl, refl)

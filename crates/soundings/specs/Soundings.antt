@@ -12,6 +12,8 @@ use Rattle.days.specs.Days.{weekdayOf}
 use Rattle.days.specs.Read.{readDateOf, refusalOf}
 use Rattle.days.specs.declared.date.ReadDate.{ReadDate}
 use Rattle.days.specs.declared.date.ReadDate.the-variants.{Day, NotADate}
+use Rattle.maths.specs.Series.{whole}
+use Rattle.calibration.specs.Scale.{decimal, snapUnitScale}
 use Rattle.refs.specs.Refs.{journeyIdOf}
 use Rattle.refs.specs.Stops.{stopDigitsOf}
 use Rattle.trip_times.specs.Fits.{away, ifRuns, nearer}
@@ -62,6 +64,8 @@ abbrev pub Soundings : Type 0
 Soundings =
     -- 19700101 is day 0, weekday 3; 20000229 is day 11,016, weekday 1; 20990229 gets 10
     (answerOf 19700101 ≡ day (pos 0) 3) × (answerOf 20000229 ≡ day (pos 11016) 1) × (answerOf 20990229 ≡ refused 10)
+    -- the ratio 1.25 snaps to 1; 1.26 stays
+    × (snapUnitScale (decimal 125 100) ≡ whole 1) × (snapUnitScale (decimal 126 100) ≡ decimal 126 100)
     -- the journey id of the first is "12", of the second "77"; the third has none
     × (journeyIdOf serviceRef ≡ 49 ∷ 50 ∷ []) × (journeyIdOf vehicleRef ≡ 55 ∷ 55 ∷ []) × (journeyIdOf otherRef ≡ [])
     -- the first stop's text yields "1234", the second's none

@@ -8,5 +8,6 @@ pub mod narrows;
 pub mod off;
 pub mod pairs;
 pub mod roots;
+pub mod samples;
 pub mod twos;
 pub mod values;

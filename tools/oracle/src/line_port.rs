@@ -35,7 +35,26 @@ mod names {
             stop_lon: f64,
             vertex: *mut usize,
         ) -> usize;
+        pub fn zebumorn_snap_unit_scale(ratio: f64) -> f64;
+        pub fn zebumorn_shape_dist_affine(
+            lat: *const f64,
+            n: usize,
+            lon: *const f64,
+            m: usize,
+            first_lat: f64,
+            first_lon: f64,
+            first_dist: f64,
+            last_lat: f64,
+            last_lon: f64,
+            last_dist: f64,
+            a: *mut f64,
+            b: *mut f64,
+        ) -> bool;
     }
+}
+
+pub fn snap_unit_scale(ratio: f64) -> f64 {
+    unsafe { names::zebumorn_snap_unit_scale(ratio) }
 }
 
 /// A line as the port is lent it.
@@ -91,5 +110,29 @@ impl Columns {
                 (vertex != usize::MAX).then_some(vertex)
             })
             .collect()
+    }
+
+    /// The start and the scale, from the first sample and the last: a distance and a position each.
+    pub fn shape_dist_affine(&self, first: (f64, (f64, f64)), last: (f64, (f64, f64))) -> Option<(f64, f64)> {
+        let (mut a, mut b) = (7.0, 8.0);
+        let (lats, lons) = (&self.lat, &self.lon);
+        let answered = unsafe {
+            names::zebumorn_shape_dist_affine(
+                lats.as_ptr(),
+                lats.len(),
+                lons.as_ptr(),
+                lons.len(),
+                first.1 .0,
+                first.1 .1,
+                first.0,
+                last.1 .0,
+                last.1 .1,
+                last.0,
+                &mut a,
+                &mut b,
+            )
+        };
+        assert!(answered || (a, b) == (7.0, 8.0), "an output was written without an answer");
+        answered.then_some((a, b))
     }
 }
