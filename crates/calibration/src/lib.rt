@@ -2,13 +2,15 @@
 // `shape_dist_affine` of the Rust's routing/geometry.rs. A line is lent as two columns, as in
 // `lengths`. Nothing is required of the values: where a length or a distance is NaN there is no answer.
 //
-// The Rust is handed the lengths along the line and all samples; of these it reads two of each. Here
-// the lengths are summed again, from the left, and the first and the last sample are handed over.
+// The Rust is handed the lengths along the line, and reads two of them. Here they are summed again,
+// from the left.
 mod affine; // metres as a multiple of a distance and a start, from two samples
+mod samples; // samples in columns
 mod scale; // the metres of a unit of distance
 
 pub use affine::Affine;
 pub use affine::Calibrated;
 pub use affine::Sample;
 pub use affine::shape_dist_affine;
+pub use samples::samples_affine;
 pub use scale::snap_unit_scale;

@@ -1,0 +1,2 @@
+-- `Rows`: what the columns' rows are of the samples.
+pub mod Rows
