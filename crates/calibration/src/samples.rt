@@ -41,6 +41,7 @@ pub fn samples_affine(lat: &[f64], lon: &[f64], y: &[f64], x: &[f64], dist: &[f3
         return Calibrated::Nothing;
     }
     let first = sample(y, x, dist, 0);
-    let last = sample(y, x, dist, n - 1);
+    let end = n - 1;
+    let last = sample(y, x, dist, end);
     shape_dist_affine(lat, lon, first, last)
 }

@@ -15,8 +15,8 @@ returns c = rw (← c .before .count .ensures, lt-ltb _ _ (c .if1 .taken))
 sample-requires : tie.Need-sample-requires
 sample-requires c κs = omega (arith, c .before .count .ensures)
 
-sub-sample : tie.Need-sub-sample
-sub-sample c = omega arith
+sub-end : tie.Need-sub-end
+sub-end c = omega arith
 
 sample-requires-2 : tie.Need-sample-requires-2
 sample-requires-2 c κs = omega (arith, c .before .before .count .ensures)
@@ -31,4 +31,4 @@ returns-2 c =
     rw (c .shape-dist-affine .ensures, c .before .sample2 .ensures, c .before .before .sample .ensures, ← l .before .count .ensures, le-ltb _ _ (l .if1 .left))
 
 pub samples-affine-spec : {M : Type 1} → statement M
-samples-affine-spec = tie.close (tie.spec count-requires returns sample-requires sub-sample sample-requires-2 shape-dist-affine-requires returns-2)
+samples-affine-spec = tie.close (tie.spec count-requires returns sample-requires sub-end sample-requires-2 shape-dist-affine-requires returns-2)
