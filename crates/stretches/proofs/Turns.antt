@@ -1,0 +1,41 @@
+-- What a turn of each loop over a part's stretches does. Assumes nothing.
+use Prim.Native.Nat.{ℕ, zero, suc, _+_, _-_, _<_, _≤_}
+use native.Mathlib.Omega.{arith}
+use native.Mathlib.Numerals.{add-one}
+use mathlib.Core.Path.{_≡_}
+use mathlib.Core.Bool.{true, false}
+use mathlib.Core.List.{List}
+use lib.Ieee.{Float, binary64, add}
+use lib.ListN.{length, List·getD-eq-default}
+use Rattle.lengths.specs.Line.{nowhere}
+use Rattle.lengths.specs.declared.line.Point.{Point}
+use Rattle.stretches.specs.Part.{at, stretchLength, lengthFrom}
+use Rattle.stretches.specs.Search.{meets, fractionOf, firstMet}
+use Rattle.stretches.specs.declared.spot.Spot.the-variants.{Stretch, NoStretch}
+
+-- past its last, a line has no vertex
+pub no-vertex : (line : List Point) (k : ℕ) → length line ≤ k → at line k ≡ nowhere
+no-vertex line k h = List·getD-eq-default line nowhere h
+
+-- the sum to the next vertex
+pub next-sum : (line : List Point) (a j : ℕ) → lengthFrom line a (j + 1) ≡ add binary64 (lengthFrom line a j) (stretchLength line (a + j))
+unfolding lengthFrom
+next-sum line a j = rw add-one
+
+module _ (sums : ℕ → Float) (a : ℕ) (tolerance target : Float) where
+  -- a stretch that the target meets
+  pub hit : (j n : ℕ) → j < n → meets tolerance target (sums j) (sums (j + 1)) ≡ true →
+      firstMet sums a tolerance target j (n - j) ≡ Stretch (a + j) (fractionOf target (sums j) (sums (j + 1)))
+  unfolding firstMet
+  hit j n h t = let e : n - j ≡ suc (n - suc j) = omega arith in let k : suc j ≡ j + 1 = omega arith in rw (e, k, t)
+
+  -- one that it does not
+  pub miss : (j n : ℕ) → j < n → meets tolerance target (sums j) (sums (j + 1)) ≡ false →
+      firstMet sums a tolerance target j (n - j) ≡ firstMet sums a tolerance target (j + 1) (n - (j + 1))
+  unfolding firstMet
+  miss j n h f = let e : n - j ≡ suc (n - (j + 1)) = omega arith in let k : suc j ≡ j + 1 = omega arith in rw (e, k, f)
+
+  -- none is left
+  pub over : (j n : ℕ) → n ≤ j → firstMet sums a tolerance target j (n - j) ≡ NoStretch
+  unfolding firstMet
+  over j n h = let e : n - j ≡ 0 = omega arith in rw e
