@@ -1,2 +1,3 @@
--- `Turns`: what a turn of each loop over a part's stretches does.
+-- `Turns`: what a turn of each loop over a part's stretches does. `Micro`: what the code writes for a millionth.
 pub mod Turns
+pub mod Micro
