@@ -1,0 +1,2 @@
+-- What the contract cites. `Nearest`: the vertex nearest to a stop.
+pub mod Nearest
