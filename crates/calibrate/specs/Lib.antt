@@ -1,0 +1,2 @@
+-- `Answers`: what the operations answer, as document 01 numbers it.
+pub mod Answers

@@ -1,0 +1,41 @@
+// The unit that a ratio is near.
+use checks::check_calibration;
+use tables::Bounds;
+use tables::Samples;
+use tables::reals_of;
+ghost use mathlib.Core.Path.{_≡_};
+ghost use Rattle.tables.specs.Pools.{pools};
+ghost use Rattle.calibrate.specs.Answers.{snappedAnswer, snappedOf};
+
+// What `snap_unit_scale` answers.
+pub enum Snapped {
+    // the metres of a unit of distance
+    Scale(f64),
+    // no ratio is lent
+    Nothing,
+    // the number of the refusal
+    Refused(u32),
+}
+
+// The metres of the unit that the ratio is near, or the ratio itself. The ratio is the first of the numbers
+// that are lent.
+pub fn snap_unit_scale(
+    bytes: &[u8],
+    words: &[u32],
+    times: &[i64],
+    reals: &[f64],
+    dists: &[f32],
+    s: Samples,
+) -> Snapped
+    ensures { λ r. ⌜ snappedAnswer r ≡ snappedOf (pools (now (bytes .entry)) (now (words .entry)) (now (times .entry)) (now (reals .entry)) (now (dists .entry))) s ⌝ }
+{
+    let refusal = check_calibration(bytes, words, times, reals, dists, Bounds::chart(), s);
+    if refusal != 0 {
+        return Snapped::Refused(refusal);
+    }
+    let numbers = reals_of(reals, s.numbers);
+    if numbers.len() == 0 {
+        return Snapped::Nothing;
+    }
+    Snapped::Scale(calibration::snap_unit_scale(numbers[0]))
+}
