@@ -1,12 +1,11 @@
 -- The vertices of a line, by the rows of its columns. Assumes nothing.
-use Prim.Native.Nat.{ℕ, zero, suc, _<_, _≤_, min}
+use Prim.Native.Nat.{ℕ, zero, suc, _<_, min}
 use native.Mathlib.Omega.{arith}
-use mathlib.Core.Path.{_≡_, refl, ap}
+use mathlib.Core.Path.{_≡_, refl}
 use mathlib.Core.List.{List, [], _∷_}
 use lib.ListN.{length, getD}
 use lib.Ieee.{Float, nan}
 use Rattle.lengths.specs.Line.{lineOf, nowhere}
-use Rattle.lengths.specs.declared.line.Point.{Point}
 
 -- a line has as many vertices as both columns have rows
 pub vertex-count : (lat lon : List Float) → length (lineOf lat lon) ≡ min (length lat) (length lon)

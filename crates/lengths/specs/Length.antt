@@ -1,5 +1,5 @@
 -- Lengths along a line, in metres. Each is summed from the left, with one rounding for each stretch. Definitions only.
-use Prim.Native.Nat.{ℕ, zero, suc}
+use Prim.Native.Nat.{ℕ, suc}
 use mathlib.Core.List.{List, [], _∷_}
 use lib.Ieee.{Float, binary64, add}
 use lib.ListN.{take}

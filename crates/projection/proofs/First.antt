@@ -1,12 +1,12 @@
 -- The first vertex near a stop, by what the search for the least distance remembers. Assumes nothing.
-use Prim.Native.Nat.{ℕ, _+_, _-_, _<_, _≤_}
+use Prim.Native.Nat.{ℕ, _+_, _-_, _<_}
 use native.Mathlib.Omega.{arith}
-use mathlib.Core.Path.{_≡_, refl, sym, ap, _∙_}
+use mathlib.Core.Path.{_≡_, refl, sym, _∙_}
 use mathlib.Core.Bool.{Bool, true, false}
 use mathlib.Core.List.{List}
 use lib.Dec.{T}
-use lib.Ieee.{Float, le}
-use lib.ListN.{length, drop}
+use lib.Ieee.{le}
+use lib.ListN.{drop}
 use Rattle.ids.specs.declared.lookup.Found.the-variants.{At}
 use Rattle.lengths.specs.declared.line.Point.{Point}
 use Rattle.projection.specs.Near.{distanceOf, distancesOf, firstWithin}

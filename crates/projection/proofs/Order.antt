@@ -1,16 +1,16 @@
 -- The vertices of a trip's stops: each stop with a position gets one, on the line, and none before an earlier stop's. Assumes nothing.
-use Prim.Native.Nat.{ℕ, zero, suc, _+_, _-_, _<_, _≤_, min}
+use Prim.Native.Nat.{ℕ, zero, suc, _+_, _-_, _<_, _≤_}
 use native.Mathlib.Omega.{arith}
-use mathlib.Core.Path.{_≡_, refl, sym, ap, _∙_}
+use mathlib.Core.Path.{_≡_, refl, ap}
 use mathlib.Core.Bool.{Bool, true, false, cond}
 use mathlib.Core.List.{List, [], _∷_}
-use lib.Ieee.{Float, le, binary64, add}
+use lib.Ieee.{Float, le}
 use lib.ListN.{length, drop, getD, length-drop}
 use Rattle.ids.specs.declared.lookup.Found.{Found}
 use Rattle.ids.specs.declared.lookup.Found.the-variants.{At, Nothing}
 use Rattle.ids.proofs.ByteOrder.{clash}
 use Rattle.lengths.specs.declared.line.Point.{Point}
-use Rattle.projection.specs.Near.{slack, distancesOf, leastIn, firstWithin, lastWithin, startOf, orElse, orVertex}
+use Rattle.projection.specs.Near.{distancesOf, firstWithin, lastWithin, startOf, orElse, orVertex}
 use Rattle.projection.specs.Forward.{pickFrom, forwardShapeIndex, forwardLastIndex}
 use Rattle.projection.specs.Projection.{stepOf, passedOf, projectionFrom}
 use Rattle.projection.specs.declared.cursor.Cursor.{Cursor}

@@ -9,7 +9,7 @@ use mathlib.Core.List.{List, foldl}
 use lib.Dec.{T}
 use lib.Ieee.{Float, inf, binary64, ofInt, add, lt, eq, le, fits}
 use lib.ListN.{length, drop}
-use Rattle.floats.proofs.Order.{nought, number, lt-le, trans-le, not-lt-le, refl-le, le-number-left, le-number-right}
+use Rattle.floats.proofs.Order.{number, lt-le, trans-le, not-lt-le, le-number-left}
 use Rattle.floats.proofs.Sums.{add-number-right, add-up, add-mono}
 use Rattle.ieee.specs.Number.{leastOf}
 use Rattle.lengths.specs.declared.line.Point.{Point}

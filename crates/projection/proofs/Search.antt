@@ -2,7 +2,7 @@
 use Prim.Native.Nat.{ℕ, zero, suc, _+_, _-_, _<_, _≤_, min}
 use native.Mathlib.Omega.{arith}
 use native.Mathlib.Numerals.{add-one}
-use mathlib.Core.Path.{_≡_, refl, sym, ap, _∙_}
+use mathlib.Core.Path.{_≡_, sym, _∙_}
 use mathlib.Core.Logic.{⊎-elim}
 use mathlib.Core.Bool.{true, false}
 use mathlib.Core.List.{List, [], _∷_, foldl}
@@ -16,7 +16,7 @@ use Rattle.ids.proofs.ByteOrder.{split}
 use Rattle.ieee.specs.Number.{leastOf}
 use Rattle.lengths.specs.Line.{metresOf, nowhere}
 use Rattle.lengths.specs.declared.line.Point.{Point}
-use Rattle.projection.specs.Near.{distancesOf, leastIn, firstWithin, lastWithin}
+use Rattle.projection.specs.Near.{distancesOf, firstWithin, lastWithin}
 
 module _ (stop : Point) (line : List Point) where
   -- the distances from vertex k on: that of vertex k, then those of the rest

@@ -1,10 +1,10 @@
 -- What is passed over changes nothing: a distance that is not within the slack of the least is not less. Assumes nothing.
-use mathlib.Core.Path.{_≡_, refl, sym, ap, _∙_}
-use mathlib.Core.Bool.{Bool, true, false, cond}
+use mathlib.Core.Path.{_≡_, refl}
+use mathlib.Core.Bool.{Bool, true, false}
 use lib.Dec.{T}
-use lib.Ieee.{Float, binary64, ofInt, add, mul, lt, eq, le, fits}
+use lib.Ieee.{Float, binary64, ofInt, add, lt, eq, le, fits}
 use lib.Ieee.Fits.{mul-fits}
-use Rattle.floats.proofs.Order.{nought, number, lt-le, trans-le, le-number-left, le-number-right}
+use Rattle.floats.proofs.Order.{nought, lt-le, trans-le, le-number-left, le-number-right}
 use Rattle.floats.proofs.Sums.{add-number-right, add-up, add-mono}
 use Rattle.measure.specs.Measure.{haversineOf, wayOf}
 use Rattle.lengths.specs.Line.{metresOf}

@@ -7,7 +7,6 @@ use lib.Dec.{T}
 use lib.Ieee.{Float, binary64, add, lt, le}
 use lib.ListN.{length, drop}
 use Rattle.floats.proofs.Order.{number}
-use Rattle.reach.specs.Reach.{Beyond}
 use Rattle.lengths.specs.declared.line.Point.{Point}
 use Rattle.projection.specs.Near.{slack, distanceOf, distancesOf, leastIn}
 use Rattle.projection.specs.declared.nearest.Nearest.{Nearest}

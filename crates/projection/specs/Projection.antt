@@ -1,5 +1,4 @@
 -- The projection of a trip's stops, one after the other, with the cursor handed on. Definitions only.
-use Prim.Native.Nat.{ℕ}
 use mathlib.Core.List.{List, [], _∷_, foldl}
 use Rattle.ids.specs.declared.lookup.Found.{Found}
 use Rattle.ids.specs.declared.lookup.Found.the-variants.{At, Nothing}

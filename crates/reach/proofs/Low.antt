@@ -1,15 +1,15 @@
 -- A way is no shorter than `lowOf` says: of a sine of an eighth or less, no step of the arc sine's stand-in makes less of it than `lowOf` has there. Assumes nothing.
-use Prim.Native.Nat.{ℕ, suc, _+_, _^_}
-use mathlib.Core.Path.{_≡_, refl, sym}
-use mathlib.Core.Bool.{Bool, true, false, not, cond, _&&_, _||_}
+use Prim.Native.Nat.{ℕ, suc}
+use mathlib.Core.Path.{_≡_, refl}
+use mathlib.Core.Bool.{Bool, true, false, _&&_, _||_}
 use lib.IntN.{pos, negsuc}
 use lib.Dec.{T, lit≤}
-use lib.Ieee.{Float, nan, inf, fin, binary64, ofInt, ofBits, neg, add, sub, mul, div, lt, eq, ne, le}
+use lib.Ieee.{Float, inf, fin, binary64, ofInt, ofBits, neg, add, sub, mul, div, lt, eq, ne, le}
 use lib.Ieee.Scale.{finite}
 use Rattle.ieee.specs.Number.{absOf}
 use Rattle.roots.specs.Root.{rootOf}
 use Rattle.floats.proofs.Signed.{neg-le}
-use Rattle.floats.proofs.Order.{nought, one, number, finite-number, refl-le, trans-le, lt-le, lt-of-lt-le, lt-not-le, le-finite, le-number-left, le-number-right, zeros-le, le-antisym, NonNeg, clear, minus, endless, nonneg}
+use Rattle.floats.proofs.Order.{nought, one, number, finite-number, refl-le, trans-le, lt-le, lt-of-lt-le, lt-not-le, le-finite, zeros-le, le-antisym, NonNeg, clear, minus, endless, nonneg}
 use Rattle.floats.proofs.Own.{one-fits}
 use Rattle.floats.proofs.Sums.{add-number, add-mono, add-mono-right, add-up, sub-number, sub-anti, one-less-le}
 use Rattle.floats.proofs.Products.{mul-number, mul-mono, mul-mono-right, mul-nonneg, square-nonneg, div-number, div-mono, div-nonneg}

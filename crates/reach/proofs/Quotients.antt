@@ -1,13 +1,13 @@
 -- A quotient of what is at least zero falls as its divisor grows. Assumes nothing.
-use mathlib.Core.Path.{_≡_, refl, ap}
-use Prim.Native.Nat.{ℕ, zero, suc, _+_, _-_, _*_, _≤_, _<_}
+use mathlib.Core.Path.{_≡_, ap}
+use Prim.Native.Nat.{ℕ, _+_, _-_, _*_, _≤_, _<_}
 use native.Mathlib.Nat.{mul-pos, mul-le-mul-right}
 use native.Mathlib.Omega.{arith}
-use mathlib.Core.Bool.{Bool, true, false}
+use mathlib.Core.Bool.{false}
 use lib.IntN.{ℤ}
 use lib.Dec.{T}
-use lib.Ieee.{Float, inf, fin, Format, up, down, div, le, lt, eq}
-use lib.Ieee.Fits.{up-pos, down-pos}
+use lib.Ieee.{Float, fin, Format, up, down, div, le, lt, eq}
+use lib.Ieee.Fits.{up-pos}
 use lib.Ieee.Scale.{finite}
 use lib.Ieee.Positive.{den, den-pos}
 use Rattle.floats.proofs.Signed.{plus, less, le→below, rounds-mono}

@@ -1,6 +1,6 @@
 //! Nanoseconds a vertex of the line, port and Rust, on the same lines in one run.
 //!
-//! Each repetition times the port and then the Rust; the table has the medians. A line goes onward, its vertices some 60 metres apart. A trip has
+//! Each repetition times the port and then the Rust; the table has the least of each, so that a busy machine matters little. A line goes onward, its vertices some 60 metres apart. A trip has
 //! twenty stops, each some metres from a vertex, in order; a single stop is beside any vertex. The Rust lists every length to answer for one.
 mod inputs;
 mod line_port;
@@ -14,10 +14,10 @@ use rust::taken::line as rust_line;
 use std::hint::black_box;
 use std::time::Instant;
 
-const REPETITIONS: usize = 15;
+const REPETITIONS: usize = 400;
 const STOPS: usize = 20;
 /// What one repetition of one side should take, in nanoseconds.
-const ENOUGH: f64 = 20e6;
+const ENOUGH: f64 = 3e5;
 
 fn line(d: &mut Draw, n: usize) -> Vec<Point> {
     let mut p = (43.0, 5.0);
@@ -42,9 +42,8 @@ fn timed(pass: &dyn Fn() -> u64, passes: usize) -> f64 {
     start.elapsed().as_nanos() as f64
 }
 
-fn median(mut times: Vec<f64>) -> f64 {
-    times.sort_by(f64::total_cmp);
-    times[times.len() / 2]
+fn least(times: Vec<f64>) -> f64 {
+    times.into_iter().fold(f64::INFINITY, f64::min)
 }
 
 /// Prints a line of the table; says whether the two sides' checksums agree. A pass goes over so many vertices.
@@ -57,7 +56,7 @@ fn row(name: &str, vertices: usize, port: &dyn Fn() -> u64, rust: &dyn Fn() -> u
         rust_times.push(timed(rust, passes));
     }
     let all = (passes * vertices) as f64;
-    let (port_ns, rust_ns) = (median(port_times) / all, median(rust_times) / all);
+    let (port_ns, rust_ns) = (least(port_times) / all, least(rust_times) / all);
     let agree = port() == rust();
     let note = if agree { "" } else { "   CHECKSUMS DIFFER" };
     println!("{name:<28} {port_ns:>9.1} {rust_ns:>9.1} {:>7.2}{note}", port_ns / rust_ns);

@@ -1,5 +1,4 @@
 -- `oracle_line::zebumorn_pass` meets its contract.
-use borrow.Author.Needs.{needs}
 use Rattle.oracle_line.proofs.zebumorn_pass.Statement.{statement}
 use Rattle.oracle_line.proofs.zebumorn_pass.Tie as tie
 

@@ -3,7 +3,6 @@ use Prim.Native.Nat.{_-_, _≤_}
 use native.Mathlib.Omega.{arith}
 use mathlib.Core.Path.{_≡_, sym, ap, _∙_}
 use lib.Ieee.{ofBits}
-use lib.ListN.{length}
 use Rattle.lengths.specs.Line.{lineOf}
 use Rattle.lengths.specs.Length.{lengthTo}
 use Rattle.lengths.proofs.Running.{first-length, next-length, whole-length}

@@ -2,7 +2,7 @@
 use Prim.Native.Nat.{_-_}
 use native.Mathlib.Omega.{arith}
 use mathlib.Core.Path.{_≡_, refl, sym, _∙_}
-use lib.ListN.{length, drop}
+use lib.ListN.{drop}
 use Rattle.lengths.specs.Line.{lineOf}
 use Rattle.projection.specs.Near.{distancesOf, firstWithin}
 use Rattle.projection.proofs.Search.{first-hit, first-miss, first-over}

@@ -1,9 +1,8 @@
 -- `projection::near::last_within` meets its contract. The loop's invariant: none from vertex k on is small enough.
 use Prim.Native.Nat.{_-_, _≤_, min}
 use native.Mathlib.Omega.{arith}
-use native.Mathlib.Numerals.{add-one}
-use mathlib.Core.Path.{_≡_, refl, sym, _∙_}
-use lib.ListN.{length, drop}
+use mathlib.Core.Path.{sym}
+use lib.ListN.{length}
 use Rattle.lengths.specs.Line.{lineOf}
 use Rattle.projection.proofs.Search.{NoneFrom, none-past, none-before, last-hit, last-none}
 use Rattle.projection.proofs.Skip.{metres-way}

@@ -1,14 +1,12 @@
 -- `projection::nearest::sweep` meets its contract. The loop's invariant: the vertices up to k are seen, and the least of all is that of the best so far and
 -- the distances from vertex k on.
-use Prim.Native.Nat.{_-_, _≤_, _+_}
+use Prim.Native.Nat.{_-_, _≤_}
 use native.Mathlib.Omega.{arith}
-use mathlib.Core.Path.{_≡_, refl, sym, ap, _∙_}
+use mathlib.Core.Path.{_≡_, refl, sym, _∙_}
 use mathlib.Core.List.{foldl}
-use lib.Ieee.{binary64, div, ofBits}
-use lib.Ieee.Fits.{mul-fits}
-use lib.ListN.{length, drop}
+use lib.Ieee.{div, ofBits}
+use lib.ListN.{drop}
 use Rattle.ieee.specs.Number.{leastOf}
-use Rattle.measure.specs.Measure.{haversineOf}
 use Rattle.lengths.specs.Line.{lineOf}
 use Rattle.reach.specs.Reach.{Beyond}
 use Rattle.reach.proofs.Past.{past-infinity}

@@ -1,5 +1,4 @@
 -- `reach::far::is_beyond` meets its contract.
-use lib.Ieee.{ofBits}
 use Rattle.reach.specs.Reach.{isBeyond}
 use Rattle.reach.proofs.far.is_beyond.Statement.{statement}
 use Rattle.reach.proofs.far.is_beyond.Tie as tie
