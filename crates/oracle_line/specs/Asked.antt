@@ -1,8 +1,10 @@
--- What a caller in C asks and is told. Definitions only.
+-- What a caller in C asks and is told: a stop's position, a calibration, a drawn position. Definitions only.
 use mathlib.Core.Bool.{Bool, true, false}
 use mathlib.Core.List.{List}
 use lib.Ieee.{Float}
 use Rattle.lengths.specs.Line.{lineOf}
+use Rattle.stretches.specs.declared.drawing.Interpolated.{Interpolated}
+use Rattle.stretches.specs.declared.drawing.Interpolated.the-variants.{At, Nothing as NoPosition}
 use Rattle.projection.specs.declared.cursor.Position.{Position}
 use Rattle.projection.specs.declared.cursor.Position.the-variants.{Known, Missing}
 use Rattle.calibration.specs.Affine.{shapeDistAffine}
@@ -31,3 +33,21 @@ startOr Nothing old = old
 abbrev pub scaleOr : Calibrated → Float → Float
 scaleOr (By f) old = f .b
 scaleOr Nothing old = old
+
+-- whether there is a position
+abbrev pub isAt : Interpolated → Bool
+isAt (At d) = true
+isAt NoPosition = false
+
+-- each number of it, or what was there before
+abbrev pub latOr : Interpolated → Float → Float
+latOr (At d) old = d .lat
+latOr NoPosition old = old
+
+abbrev pub lonOr : Interpolated → Float → Float
+lonOr (At d) old = d .lon
+lonOr NoPosition old = old
+
+abbrev pub bearingOr : Interpolated → Float → Float
+bearingOr (At d) old = d .bearing
+bearingOr NoPosition old = old

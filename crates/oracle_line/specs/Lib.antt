@@ -1,2 +1,2 @@
--- `Asked`: what a caller in C asks.
+-- `Asked`: what a caller in C asks, and is told.
 pub mod Asked

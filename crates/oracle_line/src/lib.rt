@@ -1,5 +1,12 @@
-// The C names under which tools/oracle holds lengths, the projection and calibration beside the Rust. Each says no
+// The C names under which tools/oracle holds lengths, the projection, calibration and places along a line beside the Rust. Each says no
 // more than the function that it calls.
+mod drawn; // places along a line
+
+pub use drawn::zebumorn_interpolate_along_vertices;
+pub use drawn::zebumorn_interpolate_polyline;
+pub use drawn::zebumorn_interpolate_shape_by_dist;
+pub use drawn::zebumorn_interpolate_shape_by_feed_dist;
+pub use drawn::zebumorn_nearest_idx;
 ghost use mathlib.Core.Path.{_≡_};
 ghost use Rattle.lengths.specs.Length.{lengthTo};
 ghost use Rattle.lengths.specs.Line.{lineOf};

@@ -11,3 +11,4 @@ pub mod roots;
 pub mod samples;
 pub mod twos;
 pub mod values;
+pub mod walks;

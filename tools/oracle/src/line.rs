@@ -1,4 +1,4 @@
-//! Compares lengths along lines and the projection of stops with the Rust. Ends with status 1 where any answer differs.
+//! Compares lengths along lines, the projection of stops and places along lines with the Rust. Ends with status 1 where any answer differs.
 //!
 //!     line DIVISOR     takes a DIVISOR-th of the lines
 mod inputs;
@@ -6,6 +6,7 @@ mod line_port;
 mod rust;
 mod standin;
 mod tally;
+mod walks;
 
 use inputs::draw::Draw;
 use inputs::lines::{self, Point, Stop};
@@ -13,6 +14,7 @@ use line_port::Columns;
 use rust::taken::{geo, line as rust_line};
 use std::time::Instant;
 use tally::{same, Tally};
+use walks::Walks;
 
 const LINES: u64 = 1_000_000;
 
@@ -58,6 +60,7 @@ fn compare_all(divisor: u64) -> u64 {
     let mut trips = Tally::new("trips");
     let mut first = Vertices::new("forward_shape_index");
     let mut last = Vertices::new("forward_last_index");
+    let mut walks = Walks::new();
     for i in 0..LINES / divisor {
         let line = lines::line(&mut d, i);
         let columns = Columns::of(&line);
@@ -78,8 +81,9 @@ fn compare_all(divisor: u64) -> u64 {
             lengths
                 .note(same(got, sums[k]), sums[k].is_nan(), || format!("{line:?} {k}: port: {got}, Rust: {}", sums[k]));
         }
+        walks.along(&mut d, &line, &sums);
     }
-    lengths.close() + first.close() + last.close() + trips.close()
+    lengths.close() + first.close() + last.close() + trips.close() + walks.close()
 }
 
 fn main() {

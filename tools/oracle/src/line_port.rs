@@ -50,11 +50,82 @@ mod names {
             a: *mut f64,
             b: *mut f64,
         ) -> bool;
+        pub fn zebumorn_nearest_idx(
+            lat: *const f64,
+            n: usize,
+            lon: *const f64,
+            m: usize,
+            stop_lat: f64,
+            stop_lon: f64,
+        ) -> usize;
+        pub fn zebumorn_interpolate_shape_by_dist(
+            lat: *const f64,
+            n: usize,
+            lon: *const f64,
+            m: usize,
+            d0: f32,
+            d1: f32,
+            frac: f64,
+            y: *mut f64,
+            x: *mut f64,
+            bearing: *mut f64,
+        ) -> bool;
+        pub fn zebumorn_interpolate_shape_by_feed_dist(
+            lat: *const f64,
+            n: usize,
+            lon: *const f64,
+            m: usize,
+            d0: f32,
+            d1: f32,
+            frac: f64,
+            a: f64,
+            b: f64,
+            y: *mut f64,
+            x: *mut f64,
+            bearing: *mut f64,
+        ) -> bool;
+        pub fn zebumorn_interpolate_along_vertices(
+            lat: *const f64,
+            n: usize,
+            lon: *const f64,
+            m: usize,
+            frac: f64,
+            y: *mut f64,
+            x: *mut f64,
+            bearing: *mut f64,
+        ) -> bool;
+        pub fn zebumorn_interpolate_polyline(
+            lat: *const f64,
+            n: usize,
+            lon: *const f64,
+            m: usize,
+            y0: f64,
+            x0: f64,
+            y1: f64,
+            x1: f64,
+            frac: f64,
+            y: *mut f64,
+            x: *mut f64,
+            bearing: *mut f64,
+        ) -> bool;
     }
 }
 
 pub fn snap_unit_scale(ratio: f64) -> f64 {
     unsafe { names::zebumorn_snap_unit_scale(ratio) }
+}
+
+type Point = (f64, f64);
+
+/// Latitude, longitude and bearing.
+pub type Drawn = Option<(f64, f64, f64)>;
+
+/// What a call answers that writes its position to three places; it leaves them alone where there is none.
+fn drawn(call: impl FnOnce(*mut f64, *mut f64, *mut f64) -> bool) -> Drawn {
+    let (mut y, mut x, mut bearing) = (7.0, 8.0, 9.0);
+    let given = call(&mut y, &mut x, &mut bearing);
+    assert!(given || (y, x, bearing) == (7.0, 8.0, 9.0));
+    given.then_some((y, x, bearing))
 }
 
 /// A line as the port is lent it.
@@ -83,6 +154,38 @@ impl Columns {
 
     pub fn length_to(&self, k: usize) -> f64 {
         unsafe { names::zebumorn_length_to(self.lat.as_ptr(), self.lat.len(), self.lon.as_ptr(), self.lon.len(), k) }
+    }
+
+    pub fn nearest_idx(&self, stop: Point) -> usize {
+        let (lat, n, lon, m) = self.parts();
+        unsafe { names::zebumorn_nearest_idx(lat, n, lon, m, stop.0, stop.1) }
+    }
+
+    pub fn interpolate_shape_by_dist(&self, d0: f32, d1: f32, frac: f64) -> Drawn {
+        let (lat, n, lon, m) = self.parts();
+        drawn(|y, x, b| unsafe { names::zebumorn_interpolate_shape_by_dist(lat, n, lon, m, d0, d1, frac, y, x, b) })
+    }
+
+    pub fn interpolate_shape_by_feed_dist(&self, d0: f32, d1: f32, frac: f64, affine: (f64, f64)) -> Drawn {
+        let ((lat, n, lon, m), (a, c)) = (self.parts(), affine);
+        drawn(|y, x, b| unsafe {
+            names::zebumorn_interpolate_shape_by_feed_dist(lat, n, lon, m, d0, d1, frac, a, c, y, x, b)
+        })
+    }
+
+    pub fn interpolate_along_vertices(&self, frac: f64) -> Drawn {
+        let (lat, n, lon, m) = self.parts();
+        drawn(|y, x, b| unsafe { names::zebumorn_interpolate_along_vertices(lat, n, lon, m, frac, y, x, b) })
+    }
+
+    pub fn interpolate_polyline(&self, prev: Point, next: Point, frac: f64) -> Drawn {
+        let (lat, n, lon, m) = self.parts();
+        let ((y0, x0), (y1, x1)) = (prev, next);
+        drawn(|y, x, b| unsafe { names::zebumorn_interpolate_polyline(lat, n, lon, m, y0, x0, y1, x1, frac, y, x, b) })
+    }
+
+    fn parts(&self) -> (*const f64, usize, *const f64, usize) {
+        (self.lat.as_ptr(), self.lat.len(), self.lon.as_ptr(), self.lon.len())
     }
 
     /// The trip's vertices, with the cursor handed on.

@@ -111,6 +111,7 @@ pub trait StandIn {
     fn stand_in_asin(self) -> f64;
     fn stand_in_atan2(self, x: f64) -> f64;
     fn stand_in_square(self) -> f64;
+    fn stand_in_hypot(self, y: f64) -> f64;
 }
 
 impl StandIn for f64 {
@@ -134,5 +135,8 @@ impl StandIn for f64 {
     }
     fn stand_in_square(self) -> f64 {
         self * self
+    }
+    fn stand_in_hypot(self, y: f64) -> f64 {
+        hypot(self, y)
     }
 }

@@ -5,7 +5,7 @@ pub type Point = (f64, f64);
 pub type Stop = Option<Point>;
 
 /// A degree of longitude on the equator, in metres, but for the last digits.
-const DEGREE: f64 = 111_194.926_644_558_73;
+pub const DEGREE: f64 = 111_194.926_644_558_73;
 
 fn anywhere(d: &mut Draw) -> Point {
     (d.between(-90.0, 90.0), d.between(-180.0, 180.0))
