@@ -1,8 +1,8 @@
 -- Along a route a larger fraction gives no earlier place. Assumes nothing.
-use Prim.Native.Nat.{ℕ, zero, suc, _+_, _-_, _<_, _≤_}
+use Prim.Native.Nat.{ℕ, _<_, _≤_}
 use native.Mathlib.Omega.{arith}
 use mathlib.Core.Path.{_≡_, refl, subst}
-use mathlib.Core.Logic.{_⊎_, inl, inr}
+use mathlib.Core.Logic.{inl, inr}
 use mathlib.Core.Bool.{Bool, true, false, true≢false, not, _||_, cond}
 use mathlib.Core.List.{List}
 use lib.Dec.{T, ltb, ltb→lt}
@@ -17,7 +17,6 @@ use Rattle.ieee.specs.Number.{clamp01Of}
 use Rattle.lengths.specs.declared.line.Point.{Point}
 use Rattle.stretches.specs.Part.{stretches, lengthFrom, partLength}
 use Rattle.stretches.specs.Search.{firstMet, stretchAt}
-use Rattle.stretches.specs.Spot.{turnedOf}
 use Rattle.stretches.specs.declared.part.Part.{Part}
 use Rattle.stretches.specs.declared.spot.Spot.{Spot}
 use Rattle.stretches.specs.declared.spot.Spot.the-variants.{First, Straight, NoStretch}

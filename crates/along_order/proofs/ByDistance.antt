@@ -1,24 +1,22 @@
 -- Between two distances a larger fraction gives no earlier place. Assumes nothing.
-use Prim.Native.Nat.{ℕ, zero, suc, _+_, _-_, _^_, _<_, _≤_}
+use Prim.Native.Nat.{_^_}
 use native.Mathlib.Omega.{arith}
-use mathlib.Core.Path.{_≡_, refl, subst}
+use mathlib.Core.Path.{_≡_, subst}
 use mathlib.Core.Bool.{Bool, true, false, true≢false, not, cond}
 use mathlib.Core.List.{List}
 use lib.Dec.{T, lit≤}
-use lib.Ieee.{Float, binary32, binary64, add, sub, mul, div, lt, eq, le, fits, ofInt}
+use lib.Ieee.{Float, binary32, binary64, add, sub, mul, lt, le}
 use lib.Ieee.Fits.{add-fits, sub-fits, fits-widens}
 use lib.Ieee.Scale.{finite}
 use Rattle.floats.specs.Number.{nought, one}
 use Rattle.floats.proofs.Order.{number, finite-number, le-number-left, le-number-right, trans-le, lt-le, not-le-lt, le-finite}
-use Rattle.floats.proofs.Sums.{sub-number, sub-nonneg, sub-le, add-number, add-mono-right, add-nonneg}
+use Rattle.floats.proofs.Sums.{sub-number, sub-nonneg, sub-le, add-mono-right, add-nonneg}
 use Rattle.floats.proofs.Products.{mul-number, mul-mono-right, mul-nonneg, mul-le}
 use Rattle.floats.proofs.Within.{Within, fits-within, le-within, within-finite, held-power, add-held}
 use Rattle.ieee.specs.Number.{absOf, clamp01Of}
 use Rattle.lengths.specs.declared.line.Point.{Point}
 use Rattle.stretches.specs.Part.{stretches, wholeOf, lengthFrom}
-use Rattle.stretches.specs.Search.{micro, firstMet, stretchAt}
-use Rattle.stretches.specs.Spot.{turnedOf}
-use Rattle.stretches.specs.declared.spot.Spot.{Spot}
+use Rattle.stretches.specs.Search.{micro, stretchAt}
 use Rattle.stretches.specs.declared.spot.Way.{Way}
 use Rattle.stretches.specs.declared.spot.Way.the-variants.{With, Against}
 use Rattle.by_distance.specs.Span.{half, spread, spanOf, targetOf}

@@ -1,12 +1,11 @@
 -- The clamp to 0..1 does not fall, nor does the fraction of a stretch as its target goes on. Assumes nothing.
-use mathlib.Core.Path.{_≡_}
 use mathlib.Core.Bool.{Bool, true, false, not, cond}
 use lib.Dec.{T}
 use lib.Ieee.{Float, binary64, sub, div, lt, eq, le, fits, ofInt}
 use lib.Ieee.Scale.{finite}
 use Rattle.floats.specs.Number.{nought, one}
-use Rattle.floats.proofs.Order.{number, finite-number, le-number-left, le-number-right, trans-le, lt-le, not-lt-le, lt-not-le, lt-of-lt-le, le-finite}
-use Rattle.floats.proofs.Sums.{sub-number-left, sub-number-right, sub-mono, sub-nonneg, sub-le}
+use Rattle.floats.proofs.Order.{number, le-number-left, le-number-right, trans-le, lt-le, not-lt-le, lt-not-le, lt-of-lt-le, le-finite}
+use Rattle.floats.proofs.Sums.{sub-number-left, sub-mono, sub-nonneg, sub-le}
 use Rattle.floats.proofs.Products.{div-number, div-mono}
 use Rattle.ieee.specs.Number.{clamp01Of, maxOf}
 use Rattle.stretches.specs.Search.{micro, fractionOf}

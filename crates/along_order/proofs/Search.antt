@@ -6,7 +6,7 @@ use mathlib.Core.Logic.{_⊎_, inl, inr}
 use mathlib.Core.Bool.{Bool, true, false, not, _&&_, cond}
 use lib.Dec.{T}
 use lib.Ieee.{Float, binary64, add, le, fits}
-use lib.Ieee.Fits.{and-i, and-l, and-r}
+use lib.Ieee.Fits.{and-i, and-r}
 use Rattle.floats.specs.Number.{nought}
 use Rattle.floats.proofs.Order.{finite-number, le-number-right, trans-le, lt-le, not-le-lt}
 use Rattle.floats.proofs.Sums.{add-nonneg, add-up}

@@ -1,17 +1,16 @@
 -- Lengths along a part whose stretches have lengths of zero or more: they are held, at least zero, do not fall, and are finite over up to 4,194,304 stretches. Assumes nothing.
-use Prim.Native.Nat.{ℕ, zero, suc, _+_, _-_, _*_, _^_, _<_, _≤_}
+use Prim.Native.Nat.{ℕ, zero, suc, _+_, _*_, _^_, _<_, _≤_}
 use native.Mathlib.Omega.{arith}
-use mathlib.Core.Path.{_≡_}
 use mathlib.Core.Logic.{inl, inr}
 use mathlib.Core.List.{List}
 use lib.Dec.{T}
-use lib.Ieee.{Float, nan, binary64, add, le, fits}
+use lib.Ieee.{Float, binary64, add, le, fits}
 use lib.Ieee.Fits.{add-fits}
 use Rattle.floats.specs.Number.{nought}
 use Rattle.floats.proofs.Order.{number, le-number-right}
 use Rattle.floats.proofs.Own.{nought-fits}
 use Rattle.floats.proofs.Sums.{add-nonneg, add-up}
-use Rattle.floats.proofs.Within.{Within, within-add, within-weaken, int-within}
+use Rattle.floats.proofs.Within.{Within, within-add, within-weaken}
 use Rattle.maths.proofs.Bounds.{Bounded}
 use Rattle.measure.proofs.Lengths.{length-bounded}
 use Rattle.lengths.specs.declared.line.Point.{Point}

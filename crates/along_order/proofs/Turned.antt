@@ -1,7 +1,6 @@
 -- Both ways of sailing: what does not go back in the order of the vertices does not go on against it. Assumes nothing.
-use Prim.Native.Nat.{ℕ, suc, _<_, _≤_}
-use mathlib.Core.Path.{_≡_, sym}
-use mathlib.Core.Logic.{_⊎_, inl, inr}
+use mathlib.Core.Path.{sym}
+use mathlib.Core.Logic.{inl, inr}
 use lib.Dec.{T}
 use lib.Ieee.{Float, binary64, sub, le}
 use Rattle.floats.specs.Number.{nought, one}

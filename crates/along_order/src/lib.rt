@@ -1,2 +1,3 @@
-// Along a fixed path a larger fraction gives no earlier place, whichever way the path is sailed. The
-// order of places stands in specs/, the theorem and its lemmas in proofs/; this crate has no function.
+// Along a fixed path a larger fraction gives no earlier place, whichever way the path is sailed, and
+// a position is that of the place. The order of places stands in specs/, the theorems and their lemmas
+// in proofs/ (Along, ByDistance, Agree); this crate has no function.

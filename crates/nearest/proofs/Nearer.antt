@@ -1,9 +1,9 @@
 -- A root taken only where its square is smaller than the nearest's finds the nearest vertex all the same: a root never falls as its square grows. Assumes nothing.
-use Prim.Native.Nat.{ℕ, zero, suc, _+_, _<_, _≤_}
+use Prim.Native.Nat.{ℕ, suc, _+_, _<_, _≤_}
 use native.Mathlib.Numerals.{add-one}
-use mathlib.Core.Path.{_≡_, refl, sym, _∙_}
+use mathlib.Core.Path.{_≡_, refl}
 use mathlib.Core.Bool.{Bool, true, false, not, cond}
-use mathlib.Core.List.{List, [], _∷_}
+use mathlib.Core.List.{List}
 use lib.Dec.{T}
 use lib.Ieee.{Float, nan, inf, fin, lt, eq, le}
 use lib.ListN.{length, drop, drop-of-length-le}
@@ -15,7 +15,7 @@ use Rattle.maths.specs.Trig.{hypotOf}
 use Rattle.lengths.specs.Line.{nowhere}
 use Rattle.lengths.specs.declared.line.Point.{Point}
 use Rattle.stretches.specs.Part.{at}
-use Rattle.nearest.specs.Nearest.{largest, degreesOf, nearestFrom, nearestOf, squareOf, nearerOf}
+use Rattle.nearest.specs.Nearest.{largest, degreesOf, nearestFrom, squareOf, nearerOf}
 use Rattle.nearest.specs.declared.vertex.Nearest.{Nearest}
 
 -- no root of a square that is not below the nearest's is below its distance

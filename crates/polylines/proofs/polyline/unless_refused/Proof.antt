@@ -1,6 +1,6 @@
 -- `polylines::polyline::unless_refused` meets its contract.
 use mathlib.Core.Path.{_≡_, sym, _∙_}
-use mathlib.Core.Bool.{Bool, true, false}
+use mathlib.Core.Bool.{true, false}
 use mathlib.Core.List.{List}
 use lib.Ieee.{lt, ofBits, ofInt}
 use Rattle.floats.specs.Number.{one}

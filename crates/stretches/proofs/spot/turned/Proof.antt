@@ -1,6 +1,6 @@
 -- `stretches::spot::turned` meets its contract.
 use borrow.Author.Needs.{needs}
-use lib.Ieee.{ofBits, ofInt}
+use lib.Ieee.{ofBits}
 use Rattle.stretches.proofs.spot.turned.Statement.{statement}
 use Rattle.stretches.proofs.spot.turned.Tie as tie
 
