@@ -1,7 +1,8 @@
 //! Nanoseconds a vertex of the line, port and Rust, on the same lines in one run.
 //!
 //! Each repetition times the port and then the Rust; the table has the least of each, so that a busy machine matters little. A line goes onward, its vertices some 60 metres apart. A trip has
-//! twenty stops, each some metres from a vertex, in order; a single stop is beside any vertex. The Rust lists every length to answer for one.
+//! twenty stops, each some metres from a vertex, in order; a single stop is beside any vertex. The Rust lists every length to answer for one. Walks are
+//! at twenty fractions from 0 to 1: over the whole line, by distance and by its own length, and over its middle half, between two stops.
 mod inputs;
 mod line_port;
 mod rust;
@@ -9,8 +10,8 @@ mod standin;
 
 use inputs::draw::Draw;
 use inputs::lines::Point;
-use line_port::Columns;
-use rust::taken::line as rust_line;
+use line_port::{Columns, Drawn};
+use rust::taken::{by_distance, line as rust_line, polyline};
 use std::hint::black_box;
 use std::time::Instant;
 
@@ -67,6 +68,11 @@ fn fold(sum: u64, n: usize) -> u64 {
     sum.rotate_left(1) ^ n as u64
 }
 
+fn fold_drawn(sum: u64, drawn: Drawn) -> u64 {
+    let (lat, lon, bearing) = drawn.unwrap_or((1.0, 2.0, 3.0));
+    [lat, lon, bearing].iter().fold(sum, |sum, x| fold(sum, x.to_bits() as usize))
+}
+
 /// The operations on a line of n vertices.
 fn rows(n: usize) -> bool {
     let mut d = Draw::new(34);
@@ -78,7 +84,23 @@ fn rows(n: usize) -> bool {
     let over = STOPS * n;
     let each = |f: &dyn Fn(Point) -> usize| singles.iter().fold(0, |sum, &p| fold(sum, f(p)));
     let list = |vs: Vec<Option<usize>>| vs.into_iter().flatten().fold(0, fold);
+    let fractions: Vec<f64> = (0..STOPS).map(|k| k as f64 / STOPS as f64 + 0.01).collect();
+    let walk = |f: &dyn Fn(f64) -> Drawn| fractions.iter().fold(0, |sum, &x| fold_drawn(sum, f(x)));
+    let end = columns.length_to(n - 1) as f32;
+    let (prev, next) = (beside(&mut d, line[n / 4]), beside(&mut d, line[3 * n / 4]));
     let all = [
+        row(&format!("by_dist {n}"), over, &|| walk(&|f| columns.interpolate_shape_by_dist(0.0, end, f)), &|| {
+            walk(&|f| by_distance::interpolate_shape_by_dist(&line, 0.0, end, f))
+        }),
+        row(&format!("along_vertices {n}"), over, &|| walk(&|f| columns.interpolate_along_vertices(f)), &|| {
+            walk(&|f| polyline::interpolate_along_vertices(&line, f))
+        }),
+        row(&format!("nearest_idx {n}"), over, &|| each(&|p| columns.nearest_idx(p)), &|| {
+            each(&|p| polyline::nearest_idx(&line, p.0, p.1))
+        }),
+        row(&format!("polyline {n}"), over, &|| walk(&|f| columns.interpolate_polyline(prev, next, f)), &|| {
+            walk(&|f| polyline::interpolate_polyline(&line, prev.0, prev.1, next.0, next.1, f))
+        }),
         row(&format!("forward_shape_index {n}"), over, &|| each(&|p| columns.forward_shape_index(0, p)), &|| {
             each(&|p| rust_line::forward_shape_index(&line, 0, p.0, p.1))
         }),
