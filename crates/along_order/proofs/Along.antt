@@ -1,5 +1,5 @@
 -- Along a route a larger fraction gives no earlier place. Assumes nothing.
-use Prim.Native.Nat.{ℕ, _<_, _≤_}
+use Prim.Native.Nat.{ℕ, suc, _-_, _<_, _≤_}
 use native.Mathlib.Omega.{arith}
 use mathlib.Core.Path.{_≡_, refl, subst}
 use mathlib.Core.Logic.{inl, inr}
@@ -10,7 +10,7 @@ use lib.Ieee.{Float, binary64, mul, div, lt, eq, le, fits, ofInt}
 use lib.Ieee.Fits.{mul-fits}
 use lib.Ieee.Scale.{finite}
 use Rattle.floats.specs.Number.{nought, one}
-use Rattle.floats.proofs.Order.{number, le-number-left, le-number-right, trans-le, lt-le, not-le-lt, le-finite}
+use Rattle.floats.proofs.Order.{number, le-number-left, le-number-right, refl-le, trans-le, lt-le, not-le-lt, le-finite}
 use Rattle.floats.proofs.Products.{mul-number, mul-mono-right, mul-nonneg, mul-le}
 use Rattle.floats.proofs.Within.{within-finite}
 use Rattle.ieee.specs.Number.{clamp01Of}
@@ -31,7 +31,7 @@ use Rattle.polylines.specs.declared.polyline.Routed.the-variants.{Over, Nothing
 use Rattle.along_order.specs.Order.{rankOf, NoEarlier}
 use Rattle.along_order.specs.Granted.{Lengths}
 use Rattle.along_order.proofs.Clamp.{zero-zero, clamp-mono, Aim}
-use Rattle.along_order.proofs.Search.{Before, from, upto, search-mono}
+use Rattle.along_order.proofs.Search.{Before, from, upto, search-mono, meets-some}
 use Rattle.along_order.proofs.Sums.{held, sign, rising, sum-within}
 use Rattle.along_order.proofs.Turned.{sails}
 
@@ -40,9 +40,9 @@ unfolding nano div ofInt le lt eq
 nano-sign = tt
 
 -- a fraction between 0 and 1
-record Share (f : Float) : Type 0 where
-  low : T (le nought f)
-  high : T (le f one)
+pub record Share (f : Float) : Type 0 where
+  pub low : T (le nought f)
+  pub high : T (le f one)
 
 module _ (line : List Point) (part : Part) (granted : Lengths line part) (few : stretches part ≤ 4194304) (stretched : part .first < part .last) where
   abbrev total : Float
@@ -85,6 +85,21 @@ module _ (line : List Point) (part : Part) (granted : Lengths line part) (few : 
       go false =
           search-mono part (lengthFrom line (part .first)) nano nano-sign (stretches part) (rising line part granted) (mul binary64 total f) (mul binary64 total g) (aim f s) (aim g t)
           (mul-mono-right binary64 total f g total-sign (share-number f s) (share-number g t) h) (stretches part) 0 (omega arith) (omega arith) (unfold lengthFrom in share-sign f s)
+
+  -- between 0 and 1 it is on a stretch
+  pub inside-meets : (f : Float) → Share f → insideOf line (routeOf line part) f ≡ NoStretch → ⊥
+  unfolding insideOf routeOf stretchAt
+  inside-meets f s = go (lt (partLength line part) one)
+    where
+      some : firstMet (lengthFrom line (part .first)) (part .first) nano (mul binary64 (partLength line part) f) 0 (suc (stretches part - 1)) ≡ NoStretch → ⊥
+      some =
+          meets-some part (lengthFrom line (part .first)) nano nano-sign (stretches part) (rising line part granted) (mul binary64 total f) (mul binary64 total f) (aim f s) (aim f s)
+          (refl-le (mul binary64 total f) (share-number f s)) (stretches part - 1) 0 (omega arith) (unfold lengthFrom in share-sign f s)
+          (unfold partLength in mul-le binary64 total f total-held total-sign (s .low) (s .high) (share-number f s))
+
+      go : (b : Bool) → cond b (Straight f) (firstMet (lengthFrom line (part .first)) (part .first) nano (mul binary64 (partLength line part) f) 0 (stretches part)) ≡ NoStretch → ⊥
+      go true e = absurd (true≢false (cc))
+      go false e = let q : stretches part ≡ suc (stretches part - 1) = omega arith in some (rw q at e)
 
   inside-from : (f : Float) → part .first < rankOf part (insideOf line (routeOf line part) f)
   unfolding insideOf routeOf stretchAt

@@ -1,12 +1,12 @@
 -- Between two distances a larger fraction gives no earlier place. Assumes nothing.
-use Prim.Native.Nat.{_^_}
+use Prim.Native.Nat.{_*_, _^_}
 use native.Mathlib.Omega.{arith}
 use mathlib.Core.Path.{_≡_, subst}
 use mathlib.Core.Bool.{Bool, true, false, true≢false, not, cond}
 use mathlib.Core.List.{List}
 use lib.Dec.{T, lit≤}
-use lib.Ieee.{Float, binary32, binary64, add, sub, mul, lt, le}
-use lib.Ieee.Fits.{add-fits, sub-fits, fits-widens}
+use lib.Ieee.{Float, nan, inf, fin, binary32, up, down, fits, binary64, add, sub, mul, lt, le}
+use lib.Ieee.Fits.{add-fits, sub-fits, round-fits, fits-widens}
 use lib.Ieee.Scale.{finite}
 use Rattle.floats.specs.Number.{nought, one}
 use Rattle.floats.proofs.Order.{number, finite-number, le-number-left, le-number-right, trans-le, lt-le, not-le-lt, le-finite}
@@ -14,12 +14,13 @@ use Rattle.floats.proofs.Sums.{sub-number, sub-nonneg, sub-le, add-mono-right, 
 use Rattle.floats.proofs.Products.{mul-number, mul-mono-right, mul-nonneg, mul-le}
 use Rattle.floats.proofs.Within.{Within, fits-within, le-within, within-finite, held-power, add-held}
 use Rattle.ieee.specs.Number.{absOf, clamp01Of}
+use Rattle.ieee.specs.Single.{narrowOf}
 use Rattle.lengths.specs.declared.line.Point.{Point}
 use Rattle.stretches.specs.Part.{stretches, wholeOf, lengthFrom}
 use Rattle.stretches.specs.Search.{micro, stretchAt}
 use Rattle.stretches.specs.declared.spot.Way.{Way}
 use Rattle.stretches.specs.declared.spot.Way.the-variants.{With, Against}
-use Rattle.by_distance.specs.Span.{half, spread, spanOf, targetOf}
+use Rattle.by_distance.specs.Span.{half, spread, spanOf, targetOf, feedMetres}
 use Rattle.by_distance.specs.Interpolate.{spotOver}
 use Rattle.by_distance.specs.declared.span.Span.{Span}
 use Rattle.by_distance.specs.declared.span.Spanned.{Spanned}
@@ -129,3 +130,15 @@ never-earlier-by-distance line d₀ d₁ D E granted =
     go : (b : Bool) → (T b → Goes line (spread d₀ d₁ With)) → (T (not b) → Goes line (spread d₁ d₀ Against)) → Goes line (cond b (spread d₀ d₁ With) (spread d₁ d₀ Against))
     go true p q = p tt
     go false p q = q tt
+
+-- ---- a calibrated distance is an f32
+
+narrow-held : (x : Float) → T (fits binary32 (narrowOf x))
+unfolding narrowOf fits
+narrow-held nan = tt
+narrow-held (inf s) = tt
+narrow-held (fin s m e) = round-fits binary32 s (m * up e) (down e)
+
+pub feed-held : (a b d : Float) → T (fits binary32 (feedMetres a b d))
+unfolding feedMetres
+feed-held a b d = narrow-held (add binary64 a (mul binary64 b d))

@@ -1,9 +1,9 @@
 -- A farther target meets no earlier stretch, and on the same stretch no smaller a fraction; a target on none comes last. Assumes nothing.
 use Prim.Native.Nat.{ℕ, zero, suc, _+_, _<_, _≤_}
 use native.Mathlib.Omega.{arith}
-use mathlib.Core.Path.{_≡_, refl}
+use mathlib.Core.Path.{_≡_, refl, sym, subst}
 use mathlib.Core.Logic.{_⊎_, inl, inr}
-use mathlib.Core.Bool.{Bool, true, false, not, _&&_, cond}
+use mathlib.Core.Bool.{Bool, true, false, true≢false, not, _&&_, cond}
 use lib.Dec.{T}
 use lib.Ieee.{Float, binary64, add, le, fits}
 use lib.Ieee.Fits.{and-i, and-r}
@@ -42,6 +42,17 @@ module _ (part : Part) (sums : ℕ → Float) (tolerance : Float) (slack : T (le
           part .first + j < rankOf part (cond b (Stretch (part .first + j) (fractionOf u (sums j) (sums (suc j)))) (firstMet sums (part .first) tolerance u (suc j) m))
       go true k = omega arith
       go false k = omega arith
+
+  -- a stretch that is found is of the part
+  pub in-part : (u : Float) (m j k : ℕ) (t : Float) → part .first + (j + m) ≤ part .last → firstMet sums (part .first) tolerance u j m ≡ Stretch k t → (part .first ≤ k) × (k < part .last)
+  unfolding firstMet
+  in-part u zero j k t h e = absurd (true≢false (cc))
+  in-part u (suc m) j k t h e = go (meets tolerance u (sums j) (sums (suc j))) (in-part u m (suc j) k t (omega arith)) e
+    where
+      go : (b : Bool) → (firstMet sums (part .first) tolerance u (suc j) m ≡ Stretch k t → (part .first ≤ k) × (k < part .last)) →
+          cond b (Stretch (part .first + j) (fractionOf u (sums j) (sums (suc j)))) (firstMet sums (part .first) tolerance u (suc j) m) ≡ Stretch k t → (part .first ≤ k) × (k < part .last)
+      go true r f = let q : part .first + j ≡ k = cc in (omega arith, omega arith)
+      go false r f = r f
 
   -- what is found is not past the last vertex
   pub upto : (u : Float) (m j : ℕ) → part .first + (j + m) ≤ part .last → Before part (firstMet sums (part .first) tolerance u j m) NoStretch
@@ -92,3 +103,27 @@ module _ (part : Part) (sums : ℕ → Float) (tolerance : Float) (slack : T (le
         go true false p q r = inl (omega arith)
         go false true p q r = absurd (p tt)
         go false false p q r = q tt
+
+    -- a target that is not past the last sum meets a stretch
+    met-last : (j : ℕ) → suc j ≡ n → T (le (sums j) t) → T (le t (sums n)) → T (meets tolerance t (sums j) (sums (suc j)))
+    unfolding meets
+    met-last j h l o =
+        let c = sums (suc j) in
+        let s = add-nonneg binary64 c tolerance (rising .sign (suc j) (omega arith)) slack in
+        and-i (le (sums j) t) (le t (add binary64 c tolerance)) l
+        (trans-le t c (add binary64 c tolerance) (subst (λ (k : ℕ). T (le t (sums k))) (sym h) o)
+        (add-up binary64 c tolerance (rising .held (suc j)) slack (le-number-right nought (add binary64 c tolerance) s)))
+
+    pub meets-some : (m j : ℕ) → j + suc m ≡ n → T (le (sums j) t) → T (le t (sums n)) → firstMet sums (part .first) tolerance t j (suc m) ≡ NoStretch → ⊥
+    unfolding firstMet
+    meets-some zero j h l o = go (meets tolerance t (sums j) (sums (suc j))) (met-last j (omega arith) l o)
+      where
+        go : (b : Bool) → T b → cond b (Stretch (part .first + j) (fractionOf t (sums j) (sums (suc j)))) NoStretch ≡ NoStretch → ⊥
+        go true x e = absurd (true≢false (cc))
+        go false x e = absurd x
+    meets-some (suc m) j h l o = go (meets tolerance t (sums j) (sums (suc j))) (λ f. meets-some m (suc j) (omega arith) (goes-on j (omega arith) l f) o)
+      where
+        go : (b : Bool) → (T (not b) → firstMet sums (part .first) tolerance t (suc j) (suc m) ≡ NoStretch → ⊥) →
+            cond b (Stretch (part .first + j) (fractionOf t (sums j) (sums (suc j)))) (firstMet sums (part .first) tolerance t (suc j) (suc m)) ≡ NoStretch → ⊥
+        go true r e = absurd (true≢false (cc))
+        go false r e = r tt e
