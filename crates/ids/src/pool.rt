@@ -7,12 +7,14 @@ ghost use lib.ListN.{getD, take, drop};
 ghost use Rattle.ids.specs.Pool.{cellOf, idOf};
 
 // A column: n elements from `at` on in a pool.
+#[repr(C)]
 pub struct Span {
     pub at: u32,
     pub n: u32,
 }
 
 // A column of ids. Row k's is lens[k] bytes from starts[k] on; there are as many as starts has.
+#[repr(C)]
 pub struct IdColumn {
     pub starts: Span,
     pub lens: Span,

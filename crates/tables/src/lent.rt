@@ -1,9 +1,10 @@
 // The tables and their columns. A flag is a byte, zero or not; a row under a flag that is zero has no
-// value there. All columns of a table have as many rows as its first.
+// value there. All columns of a table have as many rows as its first. Those that a C name takes have C's layout.
 use ids::IdColumn;
 use ids::Span;
 
 // Records in their own order.
+#[repr(C)]
 pub struct Stops {
     pub own: IdColumn,
     pub raw: IdColumn,
@@ -13,12 +14,14 @@ pub struct Stops {
 }
 
 // Ids that ascend, each with the row of a record.
+#[repr(C)]
 pub struct IdRows {
     pub id: IdColumn,
     pub row: Span,
 }
 
 // The rows of a trip in the stop times are `count` from `first` on.
+#[repr(C)]
 pub struct Trips {
     pub feed: IdColumn,
     pub service: IdColumn,
@@ -30,6 +33,7 @@ pub struct Trips {
 }
 
 // Arrivals and departures are schedule seconds.
+#[repr(C)]
 pub struct StopTimes {
     pub sequence: Span,
     pub stop: Span,
@@ -40,35 +44,41 @@ pub struct StopTimes {
 }
 
 // The points of a shape are `count` from `first` on.
+#[repr(C)]
 pub struct Shapes {
     pub id: IdColumn,
     pub first: Span,
     pub count: Span,
 }
 
+#[repr(C)]
 pub struct Points {
     pub lat: Span,
     pub lon: Span,
 }
 
 // An alias and the trip id that it stands for.
+#[repr(C)]
 pub struct Aliases {
     pub id: IdColumn,
     pub trip: IdColumn,
 }
 
 // By token, then trip.
+#[repr(C)]
 pub struct Lines {
     pub token: IdColumn,
     pub trip: Span,
 }
 
 // The feeds that have a calendar.
+#[repr(C)]
 pub struct Calendars {
     pub feed: IdColumn,
 }
 
 // By feed, then service. Days are dates, yyyymmdd; weekdays the low seven bits, Monday lowest.
+#[repr(C)]
 pub struct Ranges {
     pub feed: IdColumn,
     pub service: IdColumn,
@@ -78,6 +88,7 @@ pub struct Ranges {
 }
 
 // By feed, service, date, then added before removed.
+#[repr(C)]
 pub struct Exceptions {
     pub feed: IdColumn,
     pub service: IdColumn,
@@ -86,6 +97,7 @@ pub struct Exceptions {
 }
 
 // By stop_sequence.
+#[repr(C)]
 pub struct Updates {
     pub sequence: Span,
     pub stop: IdColumn,
@@ -101,6 +113,7 @@ pub struct Updates {
 }
 
 // One row.
+#[repr(C)]
 pub struct Sailing {
     pub feed: IdColumn,
     pub key: IdColumn,
@@ -111,6 +124,7 @@ pub struct Sailing {
     pub offset: Span,
 }
 
+#[repr(C)]
 pub struct Tables {
     pub stops: Stops,
     pub stopkeys: IdRows,
@@ -129,6 +143,7 @@ pub struct Tables {
 }
 
 // What matching is asked of, in one row: the trip key before its last `@`, the route, the first departure.
+#[repr(C)]
 pub struct Journey {
     pub key: IdColumn,
     pub route: IdColumn,
@@ -139,6 +154,7 @@ pub struct Journey {
 }
 
 // What a calendar is asked of, in one row.
+#[repr(C)]
 pub struct Service {
     pub feed: IdColumn,
     pub service: IdColumn,
