@@ -1,5 +1,4 @@
 // The operations, and the answer to a question.
-use crate::layout;
 use crate::script::Script;
 use libc::STDOUT_FILENO;
 use tables::bytes_of;
@@ -23,11 +22,11 @@ pub(crate) fn answer(
         return read.fails(b"no such operation");
     }
     let refusal = first(
-        bytes_of(bytes, layout::pool(words, 0)),
-        words_of(words, layout::pool(words, 1)),
-        times_of(times, layout::pool(words, 2)),
-        reals_of(reals, layout::pool(words, 3)),
-        dists_of(dists, layout::pool(words, 4)),
+        bytes_of(bytes, worlds::pool(words, 0)),
+        words_of(words, worlds::pool(words, 1)),
+        times_of(times, worlds::pool(words, 2)),
+        reals_of(reals, worlds::pool(words, 3)),
+        dists_of(dists, worlds::pool(words, 4)),
         words,
         n,
     );
@@ -45,13 +44,13 @@ fn first(
     head: &[u32],
     n: u64,
 ) -> u32 {
-    let b = layout::bounds(head);
-    let t = layout::tables(head);
+    let b = worlds::bounds(head);
+    let t = worlds::tables(head);
     match n {
         0 => b.calls,
         1 => checks::check_estimate(bytes, words, times, reals, dists, b, t),
         2 => checks::check_geometry(bytes, words, times, reals, dists, b, t),
-        3 => checks::check_leg(bytes, words, times, reals, dists, b, t, layout::leg(head)),
+        3 => checks::check_leg(bytes, words, times, reals, dists, b, t, worlds::leg(head)),
         4 => checks::check_matching(
             bytes,
             words,
@@ -60,7 +59,7 @@ fn first(
             dists,
             b,
             t,
-            layout::journey(head),
+            worlds::journey(head),
         ),
         5 => checks::check_service(
             bytes,
@@ -70,9 +69,9 @@ fn first(
             dists,
             b,
             t,
-            layout::service(head),
+            worlds::service(head),
         ),
-        6 => checks::check_interpolation(bytes, words, times, reals, dists, b, layout::along(head)),
-        _ => checks::check_calibration(bytes, words, times, reals, dists, b, layout::samples(head)),
+        6 => checks::check_interpolation(bytes, words, times, reals, dists, b, worlds::along(head)),
+        _ => checks::check_calibration(bytes, words, times, reals, dists, b, worlds::samples(head)),
     }
 }

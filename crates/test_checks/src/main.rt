@@ -9,13 +9,12 @@
 //   sN nN            a step, and N numbers more of the words, each the last one plus the step
 //   iN               N ids of three bytes each, ascending, into the bytes
 //   ?N               a question: the first refusal of operation N (ask.rt)
-// The words of the world begin with the layout of its tables (layout.rt). A line that is wrong is named on
+// The words of the world begin with the layout of its tables (crate worlds). A line that is wrong is named on
 // standard error, and no line after it is read.
 ghost use Prim.Native.Nat.{_≤_};
 ghost use lib.ListN.{length};
 
 mod ask; // ask.rt: the operations, and the answer to a question
-mod layout; // layout.rt: the bounds and tables, from the words that lay them out
 mod put; // put.rt: numbers into pools
 mod script; // script.rt: a script's words, and what those read so far have set
 

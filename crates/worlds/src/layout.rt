@@ -26,7 +26,7 @@ use tables::Updates;
 ghost use Prim.Native.Nat.{_<_};
 
 // A bound, where it is not 0, is set; else it is document 01's.
-pub(crate) fn bounds(words: &[u32]) -> Bounds {
+pub fn bounds(words: &[u32]) -> Bounds {
     let chart = Bounds::chart();
     Bounds {
         stops: bound(words, 0, chart.stops),
@@ -48,7 +48,7 @@ fn bound(words: &[u32], k: usize, chart: u32) -> u32 {
 }
 
 // The whole of pool k, of which the world has so much.
-pub(crate) fn pool(words: &[u32], k: usize) -> Span
+pub fn pool(words: &[u32], k: usize) -> Span
     requires { ⌜ k < 5 ⌝ }
 {
     Span {
@@ -76,7 +76,7 @@ fn ids(words: &[u32], k: usize) -> IdColumn
     }
 }
 
-pub(crate) fn tables(words: &[u32]) -> Tables {
+pub fn tables(words: &[u32]) -> Tables {
     Tables {
         stops: stops(words),
         stopkeys: id_rows(words, 7),
@@ -221,7 +221,7 @@ fn sailing(words: &[u32]) -> Sailing {
     }
 }
 
-pub(crate) fn journey(words: &[u32]) -> Journey {
+pub fn journey(words: &[u32]) -> Journey {
     Journey {
         key: ids(words, 78),
         route: ids(words, 80),
@@ -232,7 +232,7 @@ pub(crate) fn journey(words: &[u32]) -> Journey {
     }
 }
 
-pub(crate) fn service(words: &[u32]) -> Service {
+pub fn service(words: &[u32]) -> Service {
     Service {
         feed: ids(words, 86),
         service: ids(words, 88),
@@ -240,13 +240,13 @@ pub(crate) fn service(words: &[u32]) -> Service {
     }
 }
 
-pub(crate) fn leg(words: &[u32]) -> LegAsked {
+pub fn leg(words: &[u32]) -> LegAsked {
     LegAsked {
         trip: ids(words, 91),
     }
 }
 
-pub(crate) fn along(words: &[u32]) -> Along {
+pub fn along(words: &[u32]) -> Along {
     Along {
         line: points(words, 93),
         ends: points(words, 95),
@@ -255,7 +255,7 @@ pub(crate) fn along(words: &[u32]) -> Along {
     }
 }
 
-pub(crate) fn samples(words: &[u32]) -> Samples {
+pub fn samples(words: &[u32]) -> Samples {
     Samples {
         line: points(words, 99),
         at: points(words, 101),
