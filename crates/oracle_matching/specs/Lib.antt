@@ -1,0 +1,2 @@
+-- `Told`: what the C names make of an answer.
+pub mod Told
