@@ -1,8 +1,9 @@
 // Replays a sample of the Rust's answers: reads worlds and what is asked of them, and writes an answer for each question. tools/oracle wrote the file
 // stdin, and the file stdout from what the Rust answered.
 //
-// A line is a row of a table: the table's letter, then the fields in the order of the columns, each after a tab (rows.rt). A row of a
-// journey or a service is a question. An empty line ends a world.
+// A line is a row of a table: the table's letter, then the fields in the order of the columns, each after a tab (rows.rt):
+//   t trips   k trip ids   c stop times   a aliases   l lines   f calendars   r ranges   e exceptions   j the journey   v the service
+// The last two are questions. An empty line ends a world.
 mod ask; // ask.rt: the answers
 mod put; // put.rt: numbers and ids into pools
 mod rows; // rows.rt: a line's fields, and where each goes
