@@ -1,22 +1,24 @@
 -- Along a route a larger fraction gives no earlier place. Assumes nothing.
 use Prim.Native.Nat.{ℕ, suc, _-_, _<_, _≤_}
 use native.Mathlib.Omega.{arith}
-use mathlib.Core.Path.{_≡_, refl, subst}
+use mathlib.Core.Path.{_≡_, refl, ap, subst}
 use mathlib.Core.Logic.{inl, inr}
 use mathlib.Core.Bool.{Bool, true, false, true≢false, not, _||_, cond}
 use mathlib.Core.List.{List}
-use lib.Dec.{T, ltb, ltb→lt}
+use lib.Dec.{T, ltb, ltb→lt, lt→ltb}
 use lib.Ieee.{Float, binary64, mul, div, lt, eq, le, fits, ofInt}
 use lib.Ieee.Fits.{mul-fits}
 use lib.Ieee.Scale.{finite}
 use Rattle.floats.specs.Number.{nought, one}
-use Rattle.floats.proofs.Order.{number, le-number-left, le-number-right, refl-le, trans-le, lt-le, not-le-lt, le-finite}
+use Rattle.floats.proofs.Order.{number, le-number-left, le-number-right, refl-le, trans-le, lt-le, not-le-lt, lt-not-le, le-finite}
 use Rattle.floats.proofs.Products.{mul-number, mul-mono-right, mul-nonneg, mul-le}
+use Rattle.floats.proofs.Sums.{one-less-pos}
 use Rattle.floats.proofs.Within.{within-finite}
 use Rattle.ieee.specs.Number.{clamp01Of}
 use Rattle.lengths.specs.declared.line.Point.{Point}
 use Rattle.stretches.specs.Part.{stretches, lengthFrom, partLength}
 use Rattle.stretches.specs.Search.{firstMet, stretchAt}
+use Rattle.stretches.specs.Spot.{turnedOf}
 use Rattle.stretches.specs.declared.part.Part.{Part}
 use Rattle.stretches.specs.declared.spot.Spot.{Spot}
 use Rattle.stretches.specs.declared.spot.Spot.the-variants.{First, Straight, NoStretch}
@@ -30,7 +32,7 @@ use Rattle.polylines.specs.declared.polyline.Routed.{Routed}
 use Rattle.polylines.specs.declared.polyline.Routed.the-variants.{Over, Nothing}
 use Rattle.along_order.specs.Order.{rankOf, NoEarlier}
 use Rattle.along_order.specs.Granted.{Lengths}
-use Rattle.along_order.proofs.Clamp.{zero-zero, clamp-mono, Aim}
+use Rattle.along_order.proofs.Clamp.{zero-zero, clamp-pos, clamp-mono, Aim}
 use Rattle.along_order.proofs.Search.{Before, from, upto, search-mono, meets-some}
 use Rattle.along_order.proofs.Sums.{held, sign, rising, sum-within}
 use Rattle.along_order.proofs.Turned.{sails}
@@ -147,12 +149,42 @@ along-mono line part granted few f g h = go (ltb (part .first) (part .last)) (lt
         (λ a b c d. unfold routeOf in inside-mono line part granted few (s tt) f g (share f (le-number-left f g h) a b) (share g (le-number-right f g h) c d) h)
     go false s = inr (refl, zero-zero)
 
--- in sailing direction
+-- along a part that is sailed in the order of its vertices, as a chain of stops is
+pub never-earlier-on-line : (line : List Point) (part : Part) → Lengths line part → stretches part ≤ 4194304 → (f g : Float) → T (le f g) →
+    NoEarlier part With (alongOf line (routeOf line part) f) (alongOf line (routeOf line part) g)
+never-earlier-on-line line part granted few f g h = along-mono line part granted few f g h
+
+-- along one that is sailed either way
 pub never-earlier-along : (line : List Point) (part : Part) (way : Way) → Lengths line part → stretches part ≤ 4194304 → (f g : Float) → T (le f g) →
     NoEarlier part way (spotAlong line (routeOf line part) way f) (spotAlong line (routeOf line part) way g)
 unfolding spotAlong
 never-earlier-along line part way granted few f g h =
     sails part way (λ x. alongOf line (routeOf line part) (clamp01Of x)) (λ x y k. along-mono line part granted few (clamp01Of x) (clamp01Of y) (clamp-mono x y k)) f g h
+
+-- ---- strictly between 0 and 1 it is never the bare first vertex, either way
+
+turned-pos : (way : Way) (f : Float) → T (fits binary64 f) → T (lt nought f) → T (lt f one) → T (lt nought (turnedOf way f))
+turned-pos With f F a b = a
+turned-pos Against f F a b = one-less-pos binary64 f F b
+
+pub never-first : (line : List Point) (part : Part) (way : Way) → Lengths line part → stretches part ≤ 4194304 → part .first < part .last → (f : Float) → T (fits binary64 f) → T (lt nought f) →
+    T (lt f one) → spotAlong line (routeOf line part) way f ≡ First → ⊥
+unfolding spotAlong alongOf routeOf
+never-first line part way granted few s f F a b =
+    let x = clamp01Of (turnedOf way f) in
+    go (ltb (part .first) (part .last)) (le x nought) (le one x) (lt→ltb (part .first) (part .last) s) (lt-not-le nought x (clamp-pos (turnedOf way f) (turned-pos way f F a b)))
+  where
+    inside : Spot
+    inside = insideOf line (record { part = part; total = partLength line part }) (clamp01Of (turnedOf way f))
+
+    past-first : part .first < rankOf part inside
+    past-first = unfold routeOf in inside-from line part granted few s (clamp01Of (turnedOf way f))
+
+    go : (p q r : Bool) → T p → (T q → ⊥) → cond p (cond q First (cond r NoStretch inside)) First ≡ First → ⊥
+    go true true r t h e = absurd (h tt)
+    go true false true t h e = absurd (true≢false (cc))
+    go true false false t h e = let k : rankOf part inside ≡ part .first = ap (rankOf part) e in omega (arith, past-first)
+    go false q r t h e = absurd t
 
 -- ---- the route between two stops
 

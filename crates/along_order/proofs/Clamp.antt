@@ -6,7 +6,7 @@ use lib.Ieee.Scale.{finite}
 use Rattle.floats.specs.Number.{nought, one}
 use Rattle.floats.proofs.Order.{number, le-number-left, le-number-right, trans-le, lt-le, not-lt-le, lt-not-le, lt-of-lt-le, le-finite}
 use Rattle.floats.proofs.Sums.{sub-number-left, sub-mono, sub-nonneg, sub-le}
-use Rattle.floats.proofs.Products.{div-number, div-mono}
+use Rattle.floats.proofs.Products.{div-number, div-mono, one-pos}
 use Rattle.ieee.specs.Number.{clamp01Of, maxOf}
 use Rattle.stretches.specs.Search.{micro, fractionOf}
 
@@ -41,6 +41,15 @@ clamp-high x n = go (lt x nought) (lt one x) (not-lt-le one x tt n)
     go true b h = zero-one
     go false true h = one-one
     go false false h = h tt
+
+pub clamp-pos : (x : Float) → T (lt nought x) → T (lt nought (clamp01Of x))
+unfolding clamp01Of
+clamp-pos x p = go (lt x nought) (lt one x) (λ h. lt-not-le x nought h (lt-le nought x p))
+  where
+    go : (a b : Bool) → (T a → ⊥) → T (lt nought (cond a nought (cond b one x)))
+    go true b h = absurd (h tt)
+    go false true h = one-pos
+    go false false h = p
 
 pub clamp-mono : (x y : Float) → T (le x y) → T (le (clamp01Of x) (clamp01Of y))
 unfolding clamp01Of
