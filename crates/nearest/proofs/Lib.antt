@@ -1,2 +1,3 @@
--- `Nearer`: a root taken only where its square is smaller finds the nearest vertex all the same.
-pub mod Nearer
+-- `Squares`: what a turn of each loop over a line's squares does. `Least`: the first vertex at the root of the least square is the nearest.
+pub mod Squares
+pub mod Least

@@ -1,2 +1,3 @@
--- What the contract cites. `Nearest`: the vertex nearest to a stop.
+-- What the contracts cite. `Nearest`: the vertex nearest to a stop. `Squares`: the squares of distances.
 pub mod Nearest
+pub mod Squares

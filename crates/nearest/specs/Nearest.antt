@@ -3,11 +3,9 @@ use Prim.Native.Nat.{ℕ, suc}
 use mathlib.Core.Bool.{false, cond}
 use mathlib.Core.List.{List, [], _∷_}
 use lib.IntN.{pos}
-use lib.Ieee.{Float, fin, binary64, add, sub, mul, lt}
-use Rattle.roots.specs.Root.{rootOf}
+use lib.Ieee.{Float, fin, binary64, sub, lt}
 use Rattle.maths.specs.Trig.{hypotOf}
 use Rattle.lengths.specs.declared.line.Point.{Point}
-use Rattle.nearest.specs.declared.vertex.Nearest.{Nearest}
 
 -- the largest f64
 abbrev pub largest : Float
@@ -27,15 +25,3 @@ nearestFrom best distance k stop (v ∷ line) =
 -- 0 where no distance is a number
 unfoldable pub nearestOf : List Point → Point → ℕ
 nearestOf line stop = nearestFrom 0 largest 0 stop line
-
--- the square of a distance
-unfoldable pub squareOf : Point → Point → Float
-squareOf p q =
-    let y = sub binary64 (p .lat) (q .lat) in
-    let x = sub binary64 (p .lon) (q .lon) in
-    add binary64 (mul binary64 y y) (mul binary64 x x)
-
--- the nearest so far, once vertex k with this square is looked at
-unfoldable pub nearerOf : Nearest → ℕ → Float → Nearest
-nearerOf best k square =
-    cond (lt square (best .square)) (cond (lt (rootOf square) (best .distance)) (record { vertex = k; distance = rootOf square; square = square }) best) best

@@ -1,5 +1,5 @@
 -- `nearest::vertex::square` meets its contract.
-use Rattle.nearest.specs.Nearest.{squareOf}
+use Rattle.nearest.specs.Squares.{squareOf}
 use mathlib.Core.Path.{refl}
 use Rattle.nearest.proofs.vertex.square.Statement.{statement}
 use Rattle.nearest.proofs.vertex.square.Tie as tie
