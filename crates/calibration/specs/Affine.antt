@@ -1,5 +1,4 @@
 -- The metres along a line that a feed's distances stand for. Each operation is rounded once to binary64. Definitions only.
-use Prim.Native.Nat.{ℕ}
 use mathlib.Core.Bool.{Bool, false, cond, _&&_, _||_}
 use mathlib.Core.List.{List}
 use lib.Dec.{ltb}
@@ -10,7 +9,6 @@ use Rattle.lengths.specs.Length.{lengthTo}
 use Rattle.lengths.specs.declared.line.Point.{Point}
 use Rattle.projection.specs.Forward.{forwardShapeIndex, forwardLastIndex}
 use Rattle.calibration.specs.Scale.{decimal, snapUnitScale}
-use Rattle.calibration.specs.declared.affine.Affine.{Affine}
 use Rattle.calibration.specs.declared.affine.Calibrated.{Calibrated}
 use Rattle.calibration.specs.declared.affine.Calibrated.the-variants.{By, Nothing}
 use Rattle.calibration.specs.declared.affine.Sample.{Sample}

@@ -23,10 +23,13 @@ use Rattle.projection.specs.declared.cursor.Position.the-variants.{Known, Missi
 abbrev pub realOf : List Float → Span → ℕ → Float
 realOf reals s k = getD reals (s .at + k) nan
 
+-- where a stop's columns say that it is
+unfoldable pub stopPoint : List Float → Stops → ℕ → Point
+stopPoint reals s stop = record { lat = realOf reals (s .lat) stop; lon = realOf reals (s .lon) stop }
+
 -- where a stop is
 unfoldable pub stopPosition : List ℕ → List Float → Stops → ℕ → Position
-stopPosition bytes reals s stop =
-    cond (eqb (bitOf bytes (s .positioned) stop) 0) Missing (Known (record { lat = realOf reals (s .lat) stop; lon = realOf reals (s .lon) stop }))
+stopPosition bytes reals s stop = cond (eqb (bitOf bytes (s .positioned) stop) 0) Missing (Known (stopPoint reals s stop))
 
 -- where the stop of a row of the stop times is
 unfoldable pub rowPosition : List ℕ → List ℕ → List Float → Stops → StopTimes → ℕ → Position

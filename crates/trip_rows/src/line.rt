@@ -7,7 +7,7 @@ ghost use mathlib.Core.Path.{_≡_};
 ghost use Rattle.trip_rows.specs.Rows.{shapeSpan, tripSpan, shapeColumn};
 
 // The points of a shape, counted from the first of all.
-fn shape_span(words: &[u32], s: Shapes, shape: usize) -> Span
+pub fn shape_span(words: &[u32], s: Shapes, shape: usize) -> Span
     ensures { λ r. ⌜ r ≡ shapeSpan (now (words .entry)) s shape ⌝ }
 {
     let first = s.first;

@@ -14,7 +14,7 @@ use inputs::samples::{self, Sample};
 use line_port::Columns;
 use rust::taken::line as rust_line;
 use std::time::Instant;
-use tally::{hex, same, Tally};
+use tally::{agree, hex, same, Tally};
 
 const RATIOS: u64 = 10_000_000;
 const LINES: u64 = 1_000_000;
@@ -53,16 +53,14 @@ impl Seen {
     }
 
     fn tell(&self) {
-        println!("    {} answered, {} of them by a unit; {} with NaN between the samples", self.answered, self.snapped, self.nan_metres);
-        println!("    {} with distances about 1e-9 apart, {} with metres about 1 apart", self.distances_at_bound, self.metres_at_bound);
-    }
-}
-
-fn agree(got: Option<(f64, f64)>, want: Option<(f64, f64)>) -> bool {
-    match (got, want) {
-        (Some(g), Some(w)) => same(g.0, w.0) && same(g.1, w.1),
-        (None, None) => true,
-        _ => false,
+        println!(
+            "    {} answered, {} of them by a unit; {} with NaN between the samples",
+            self.answered, self.snapped, self.nan_metres
+        );
+        println!(
+            "    {} with distances about 1e-9 apart, {} with metres about 1 apart",
+            self.distances_at_bound, self.metres_at_bound
+        );
     }
 }
 
@@ -87,7 +85,9 @@ fn compare_samples(d: &mut Draw, count: u64) -> u64 {
         let want = rust_line::shape_dist_affine(&line, &lengths, &taken);
         let got = Columns::of(&line).shape_dist_affine(first, last);
         seen.note(metres(first.1, last.1), last.0 - first.0, want);
-        tally.note(agree(got, want), want.is_none(), || format!("{line:?} {first:?} {last:?}: port: {got:?}, Rust: {want:?}"));
+        tally.note(agree(got, want), want.is_none(), || {
+            format!("{line:?} {first:?} {last:?}: port: {got:?}, Rust: {want:?}")
+        });
     }
     let differ = tally.close();
     seen.tell();

@@ -9,6 +9,7 @@ pub mod off;
 pub mod pairs;
 pub mod roots;
 pub mod samples;
+pub mod trips;
 pub mod twos;
 pub mod values;
 pub mod walks;

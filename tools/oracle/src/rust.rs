@@ -2,6 +2,8 @@
 #![allow(dead_code, unused_imports)]
 pub use crate::standin::{asin, atan, atan2, cos, degrees, hypot, radians, sin};
 
+pub mod records;
+
 pub mod taken {
     include!(env!("ORACLE_TAKEN"));
 }

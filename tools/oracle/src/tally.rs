@@ -47,6 +47,15 @@ pub fn same(a: f64, b: f64) -> bool {
     a.is_nan() && b.is_nan() || a.to_bits() == b.to_bits()
 }
 
+/// Both none, or two pairs of the same numbers.
+pub fn agree(got: Option<(f64, f64)>, want: Option<(f64, f64)>) -> bool {
+    match (got, want) {
+        (Some(g), Some(w)) => same(g.0, w.0) && same(g.1, w.1),
+        (None, None) => true,
+        _ => false,
+    }
+}
+
 pub fn same_f32(a: f32, b: f32) -> bool {
     a.is_nan() && b.is_nan() || a.to_bits() == b.to_bits()
 }

@@ -22,7 +22,7 @@ fn spacing(d: &mut Draw) -> f64 {
 }
 
 /// Onward, mostly to the north and east.
-fn onward(d: &mut Draw, n: usize) -> Vec<Point> {
+pub fn onward(d: &mut Draw, n: usize) -> Vec<Point> {
     let step = spacing(d);
     let mut p = (d.between(-85.0, 85.0), d.between(-179.0, 179.0));
     (0..n)

@@ -1,6 +1,4 @@
 -- `calibrate::scale::snap_unit_scale` meets its contract.
-use borrow.Author.Needs.{needs}
-use Prim.Native.Nat.{_<_}
 use native.Mathlib.Omega.{arith}
 use mathlib.Core.Path.{_≡_, refl}
 use mathlib.Core.List.{List, [], _∷_}

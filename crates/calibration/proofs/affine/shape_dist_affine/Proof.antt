@@ -1,5 +1,4 @@
 -- `calibration::affine::shape_dist_affine` meets its contract.
-use mathlib.Core.Path.{sym, _∙_}
 use borrow.Author.Tests.{lt-ltb, le-ltb}
 use Rattle.calibration.specs.Affine.{shapeDistAffine}
 use Rattle.calibration.proofs.affine.shape_dist_affine.Statement.{statement}

@@ -11,16 +11,12 @@ returns : tie.Need-returns
 unfolding stopPosition
 returns c = rw (← c .before .bit .ensures, eq-eqb _ _ (c .if1 .taken))
 
-real-requires : tie.Need-real-requires
-real-requires c κs = search needs
-
-real-requires-2 : tie.Need-real-requires-2
-real-requires-2 c κs = search needs
+stop-point-requires : tie.Need-stop-point-requires
+stop-point-requires c κs = search needs
 
 returns-2 : tie.Need-returns-2
 unfolding stopPosition
-returns-2 c = rw (← c .before .before .before .bit .ensures, ne-eqb _ _ (c .before .before .if1 .left), c .before .real .ensures, c .real2 .ensures)
+returns-2 c = rw (← c .before .before .bit .ensures, ne-eqb _ _ (c .before .if1 .left), c .stop-point .ensures)
 
 pub stop-position-spec : {M : Type 1} → statement M
-stop-position-spec =
-    tie.close (tie.spec bit-requires returns real-requires real-requires-2 returns-2)
+stop-position-spec = tie.close (tie.spec bit-requires returns stop-point-requires returns-2)

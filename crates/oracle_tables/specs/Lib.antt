@@ -1,0 +1,2 @@
+-- `Asked`: where the columns stand that a caller in C lends.
+pub mod Asked
