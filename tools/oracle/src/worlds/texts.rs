@@ -48,6 +48,7 @@ pub fn token(d: &mut Draw) -> String {
         4 => format!("AB{}", digits(d, 2)),
         5 => format!("C{}", digits(d, 40)),
         6..=8 => format!("C{}", digits(d, 4)),
+        9 => format!("CX{}", digits(d, 4)),
         _ => format!("C0{}", digits(d, 4)),
     }
 }
