@@ -1,0 +1,31 @@
+-- Interpolation alone as an operation: the first refusal that applies, or the position asked for.
+use mathlib.Core.List.{List}
+use lib.Ieee.{Float}
+use Rattle.measure.specs.Answer.{Answer, refused, given}
+use Rattle.answers.specs.Answers.{unlessRefused}
+use Rattle.lengths.specs.Line.{lineOf}
+use Rattle.tables.specs.Pools.{Pools, partOf}
+use Rattle.tables.specs.Refuse.{chartBounds, refusalOf}
+use Rattle.tables.specs.declared.lent.Along.{Along}
+use Rattle.checks.specs.Operations.{interpolationCauses}
+use Rattle.stretches.specs.declared.drawing.Interpolated.{Interpolated}
+use Rattle.stretches.specs.declared.drawing.Interpolated.the-variants.{At, Nothing}
+use Rattle.interpolate.specs.Asked.{positionLent}
+use Rattle.interpolate.specs.declared.asked.Question.{Question}
+use Rattle.interpolate.specs.declared.operation.Interpolation.{Interpolation}
+use Rattle.interpolate.specs.declared.operation.Interpolation.the-variants.{At as Drawn, Nothing as NoAnswer, Refused}
+
+-- the number and the value of each case
+abbrev pub interpolationAnswer : Interpolation → Answer Interpolated
+interpolationAnswer (Drawn d) = given (At d)
+interpolationAnswer NoAnswer = given Nothing
+interpolationAnswer (Refused n) = refused n
+
+-- the position asked for, of what is lent
+unfoldable pub alongLent : List Float → List Float → Question → Along → Interpolated
+alongLent reals dists question a =
+    positionLent question (lineOf (partOf reals (a .line .lat)) (partOf reals (a .line .lon))) (lineOf (partOf reals (a .ends .lat)) (partOf reals (a .ends .lon)))
+    (partOf dists (a .dists)) (partOf reals (a .numbers))
+
+unfoldable pub interpolationOf : Pools → Question → Along → Answer Interpolated
+interpolationOf p question a = unlessRefused (refusalOf p (interpolationCauses chartBounds a)) (alongLent (p .reals) (p .dists) question a)

@@ -1,0 +1,65 @@
+// The operation.
+use crate::asked::Question;
+use crate::asked::position;
+use checks::check_interpolation;
+use stretches::Drawn;
+use stretches::Interpolated;
+use tables::Along;
+use tables::Bounds;
+use tables::dists_of;
+use tables::reals_of;
+ghost use mathlib.Core.Path.{_≡_};
+ghost use Rattle.tables.specs.Pools.{pools};
+ghost use Rattle.interpolate.specs.Answers.{interpolationAnswer, interpolationOf, alongLent};
+
+// What an interpolation answers.
+pub enum Interpolation {
+    // this position, and the bearing there
+    At(Drawn),
+    Nothing,
+    // the number of the refusal
+    Refused(u32),
+}
+
+// The position asked for, of what is not refused.
+fn lent(reals: &[f64], dists: &[f32], question: Question, a: Along) -> Interpolated
+    ensures { λ r. ⌜ r ≡ alongLent (now (reals .entry)) (now (dists .entry)) question a ⌝ }
+{
+    let lat = a.line.lat;
+    let lon = a.line.lon;
+    let y = a.ends.lat;
+    let z = a.ends.lon;
+    let d = a.dists;
+    let x = a.numbers;
+    position(
+        question,
+        reals_of(reals, lat),
+        reals_of(reals, lon),
+        reals_of(reals, y),
+        reals_of(reals, z),
+        dists_of(dists, d),
+        reals_of(reals, x),
+    )
+}
+
+// The position that the question asks for, or none, or the first refusal that applies.
+pub fn interpolate(
+    bytes: &[u8],
+    words: &[u32],
+    times: &[i64],
+    reals: &[f64],
+    dists: &[f32],
+    question: Question,
+    a: Along,
+) -> Interpolation
+    ensures { λ r. ⌜ interpolationAnswer r ≡ interpolationOf (pools (now (bytes .entry)) (now (words .entry)) (now (times .entry)) (now (reals .entry)) (now (dists .entry))) question a ⌝ }
+{
+    let refusal = check_interpolation(bytes, words, times, reals, dists, Bounds::chart(), a);
+    if refusal != 0 {
+        return Interpolation::Refused(refusal);
+    }
+    match lent(reals, dists, question, a) {
+        Interpolated::At(drawn) => Interpolation::At(drawn),
+        Interpolated::Nothing => Interpolation::Nothing,
+    }
+}
