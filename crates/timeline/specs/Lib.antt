@@ -1,5 +1,3 @@
--- What the contracts cite. `Turn`: which call or leg the clock falls to. `Fraction`: how much of a leg has gone by. `Order`: what a
--- turn's place in the voyage is, and calls whose times do not go back.
+-- What the contracts cite. `Turn`: which call or leg the clock falls to. `Fraction`: how much of a leg has gone by.
 pub mod Turn
 pub mod Fraction
-pub mod Order
