@@ -2,7 +2,7 @@
 use Prim.Native.Nat.{ℕ, _+_, _-_, _*_, _<_, _≤_}
 use native.Mathlib.Nat.{le-trans}
 use native.Mathlib.Omega.{arith}
-use mathlib.Core.Path.{_≡_, refl}
+use mathlib.Core.Path.{_≡_, refl, ap}
 use mathlib.Core.Logic.{_⊎_, inl, inr, ⊎-elim}
 use mathlib.Core.List.{List}
 use lib.ListN.{length}
@@ -11,7 +11,7 @@ use Rattle.timeline.specs.Turn.{timeAt, turnOf}
 use Rattle.timeline.specs.declared.turn.Turn.{Turn}
 use Rattle.timeline.specs.declared.turn.Turn.the-variants.{At, Between, Towards, After}
 use Rattle.timeline_order.specs.Order.{Timely, turnRank}
-use Rattle.timeline_order.proofs.Says.{SaysTimely, arrivals-mono, departure-arrival, departures-mono, turn-says-timely}
+use Rattle.timeline_order.proofs.Says.{SaysTimely, arrivals-mono, departures-mono, turn-says-timely}
 
 module _ (arrs deps : List ℕ) (timely : Timely arrs deps) (several : 2 ≤ length arrs) where
   -- towards the first of several calls, the clock has not come to its arrival
@@ -62,3 +62,26 @@ module _ (arrs deps : List ℕ) (timely : Timely arrs deps) (several : 2 ≤ len
   pub turn-order : (clock clock′ : ℕ) → clock ≤ clock′ → turnRank (length arrs) (turnOf clock arrs deps) ≤ turnRank (length arrs) (turnOf clock′ arrs deps)
   turn-order clock clock′ h =
       later clock clock′ h (turnOf clock arrs deps) (turnOf clock′ arrs deps) (turn-says-timely arrs deps timely clock) (turn-says-timely arrs deps timely clock′)
+
+-- ---- towards the first call, and a single call
+module _ (arrs deps : List ℕ) (timely : Timely arrs deps) (clock : ℕ) where
+  -- towards the first call and not past its departure, the clock has not come to its arrival
+  pub towards-early : 1 ≤ length arrs → turnOf clock arrs deps ≡ Towards → clock ≤ timeAt deps 0 → clock < timeAt arrs 0
+  towards-early l e h = let s : SaysTimely clock arrs deps Towards = rw e at (turn-says-timely arrs deps timely clock) in ⊎-elim (λ a. a) (λ p. absurd (omega (arith, p .1))) (s l)
+
+  -- of a single call the clock is alongside, or it is towards it
+  pub single-turn : length arrs ≡ 1 → (turnOf clock arrs deps ≡ At 0) ⊎ (turnOf clock arrs deps ≡ Towards)
+  single-turn e = go (turnOf clock arrs deps) (turn-says-timely arrs deps timely clock)
+    where
+      go : (turn : Turn) → SaysTimely clock arrs deps turn → (turn ≡ At 0) ⊎ (turn ≡ Towards)
+      go (At k) s = let z : k ≡ 0 = omega (arith, s .0) in inl (ap At z)
+      go (Between k) s = absurd (omega (arith, s .0))
+      go Towards s = inr refl
+      go After s = absurd (omega (arith, s .0))
+
+  -- after a clock alongside of it, one that is not is past its departure
+  pub single-order : (clock′ : ℕ) → clock ≤ clock′ → 1 ≤ length arrs → turnOf clock arrs deps ≡ At 0 → turnOf clock′ arrs deps ≡ Towards → timeAt deps 0 < clock′
+  single-order clock′ h l e e′ =
+      let s : SaysTimely clock arrs deps (At 0) = rw e at (turn-says-timely arrs deps timely clock) in
+      let s′ : SaysTimely clock′ arrs deps Towards = rw e′ at (turn-says-timely arrs deps timely clock′) in
+      ⊎-elim (λ a. absurd (omega (arith, s .1))) (λ p. p .1) (s′ l)

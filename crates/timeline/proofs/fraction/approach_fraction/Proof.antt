@@ -1,5 +1,4 @@
 -- `timeline::fraction::approach_fraction` meets its contract.
-use borrow.Author.Needs.{needs}
 use lib.Ieee.{ofBits, ofInt}
 use Rattle.timeline.specs.Fraction.{approachFraction, runOver}
 use Rattle.timeline.proofs.fraction.approach_fraction.Statement.{statement}

@@ -1,5 +1,4 @@
 -- `timeline::turn::edge` meets its contract.
-use borrow.Author.Needs.{needs}
 use borrow.Author.Tests.{lt-ltb, le-ltb}
 use Rattle.timeline.specs.Turn.{edgeOf}
 use Rattle.timeline.proofs.turn.edge.Statement.{statement}

@@ -3,7 +3,7 @@ use borrow.Author.Count.{below-more, below-none}
 use Prim.Native.Nat.{_-_, _<_, _≤_, ℕ}
 use native.Mathlib.Omega.{arith}
 use mathlib.Core.Bool.{false}
-use mathlib.Core.Path.{_≡_, sym, _∙_}
+use mathlib.Core.Path.{_≡_}
 use lib.ListN.{length}
 use Rattle.ids.proofs.Search.{first-hit, first-miss}
 use Rattle.timeline.specs.Turn.{underWay}
