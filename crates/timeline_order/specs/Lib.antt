@@ -1,0 +1,2 @@
+-- `Order`: the order of turns, and calls whose times do not go back.
+pub mod Order
