@@ -1,7 +1,8 @@
--- Which paths are chosen, and what holds of each. Assumes nothing.
-use Prim.Native.Nat.{ℕ, zero, suc, _+_, _<_, _≤_}
+-- Which paths can be chosen, and what holds of each. Assumes nothing.
+use Prim.Native.Nat.{ℕ, suc, _+_, _<_, _≤_}
 use native.Mathlib.Omega.{arith}
-use mathlib.Core.Path.{_≡_, refl, sym, ap, subst}
+use mathlib.Core.Path.{_≡_, refl, sym, subst}
+use mathlib.Core.Logic.{_⊎_, inl, inr}
 use mathlib.Core.Bool.{Bool, true, false, true≢false, not, _||_, cond}
 use mathlib.Core.List.{List, [], _∷_}
 use lib.Dec.{T, ltb, ltb→lt}
@@ -12,8 +13,9 @@ use Rattle.ieee.specs.Number.{absOf}
 use Rattle.lengths.specs.declared.line.Point.{Point}
 use Rattle.calibration.specs.declared.affine.Calibrated.{Calibrated}
 use Rattle.calibration.specs.declared.affine.Calibrated.the-variants.{By, Nothing as Uncalibrated}
-use Rattle.stretches.specs.Part.{wholeOf}
+use Rattle.stretches.specs.Part.{at, stretches, wholeOf}
 use Rattle.stretches.specs.declared.part.Part.{Part}
+use Rattle.stretches.specs.declared.spot.Spot.the-variants.{Straight}
 use Rattle.stretches.specs.declared.spot.Way.{Way}
 use Rattle.stretches.specs.declared.spot.Way.the-variants.{With, Against}
 use Rattle.by_distance.specs.Span.{half, spread, spanOf, feedMetres}
@@ -21,30 +23,35 @@ use Rattle.by_distance.specs.declared.span.Span.{Span}
 use Rattle.by_distance.specs.declared.span.Spanned.{Spanned}
 use Rattle.by_distance.specs.declared.span.Spanned.the-variants.{Over, Short}
 use Rattle.nearest.specs.Nearest.{largest, degreesOf, nearestFrom, nearestOf}
-use Rattle.routes.specs.Route.{routeOf}
+use Rattle.routes.specs.Route.{routeOf, alongOf}
 use Rattle.routes.specs.declared.route.Route.{Route}
-use Rattle.polylines.specs.Polyline.{roundabout, routedOf, routeBetween}
+use Rattle.polylines.specs.Polyline.{roundabout, routedOf, routeBetween, spotAlong}
 use Rattle.polylines.specs.declared.polyline.Routed.{Routed}
 use Rattle.polylines.specs.declared.polyline.Routed.the-variants.{Over as Routed·over, Nothing as Routed·nothing}
+use Rattle.along_order.specs.Order.{NoEarlier as Spot·noEarlier}
 use Rattle.along_order.specs.Granted.{Distance}
-use Rattle.legs.specs.Path.{feedSpan, overSpan, overRoute, overChain, pathOf}
+use Rattle.along_order.proofs.Along.{Inside, never-earlier-on-line, never-earlier-polyline}
+use Rattle.along_order.proofs.ByDistance.{never-earlier-by-distance}
+use Rattle.legs.specs.Path.{feedSpan, overSpan, overRoute, overChain, pathOf, pathLine, pathPart, pathWay, spotOf}
+use Rattle.legs.specs.Granted.{Chained, Granted}
 use Rattle.legs.specs.declared.path.Mark.{Mark}
 use Rattle.legs.specs.declared.path.Mark.the-variants.{At, Nothing}
 use Rattle.legs.specs.declared.path.Path.{Path}
-use Rattle.legs.specs.declared.path.Path.the-variants.{ByDistance, Polyline, Straight}
+use Rattle.legs.specs.declared.path.Path.the-variants.{ByDistance, Polyline, Straight as Path·straight}
+use Rattle.legs.proofs.Spots.{OnPart, over-on-part, sailed-on-part, chain-on-part}
 
 -- ---- the four kinds
 
 pub data Chosen (shape chain : List Point) (from to : Point) : Path → Type 0 where
   spanned : (d₀ d₁ : Float) (span : Span) → spanOf d₀ d₁ ≡ Over span → Chosen shape chain from to (ByDistance span)
   routed : (route : Route) (way : Way) → routeBetween shape from to ≡ Routed·over route way → Chosen shape chain from to (Polyline route way)
-  chained : Chosen shape chain from to (overChain chain)
-  straight : Chosen shape chain from to Straight
+  chained : Chained from to chain → Chosen shape chain from to (overChain chain)
+  straight : Chosen shape chain from to Path·straight
 
-module _ (shape chain : List Point) (from to : Point) where
+module _ (shape chain : List Point) (from to : Point) (c : Chained from to chain) where
   over-route : (r : Routed) → routeBetween shape from to ≡ r → Chosen shape chain from to (overRoute r (overChain chain))
   over-route (Routed·over route way) e = routed route way e
-  over-route Routed·nothing e = chained
+  over-route Routed·nothing e = chained c
 
   over-span : (d₀ d₁ : Float) (s : Spanned) (other : Path) → spanOf d₀ d₁ ≡ s → Chosen shape chain from to other → Chosen shape chain from to (overSpan s other)
   over-span d₀ d₁ (Over span) other e k = spanned d₀ d₁ span e
@@ -64,16 +71,16 @@ module _ (shape chain : List Point) (from to : Point) where
   path-chosen calibrated d₀ d₁ = go (ltb (length shape) 2)
     where
       go : (b : Bool) → Chosen shape chain from to (cond b (overChain chain) (overSpan (feedSpan calibrated d₀ d₁) (overRoute (routeBetween shape from to) (overChain chain))))
-      go true = chained
+      go true = chained c
       go false = over-feed calibrated d₀ d₁ (overRoute (routeBetween shape from to) (overChain chain)) (over-route (routeBetween shape from to) refl)
 
 -- ---- by distance: what is granted of a span is granted of the two distances
 
-pub record Both (d₀ d₁ : Float) : Type 0 where
-  pub here : Distance d₀
-  pub there : Distance d₁
+record Both (d₀ d₁ : Float) : Type 0 where
+  here : Distance d₀
+  there : Distance d₁
 
-pub span-distances : (d₀ d₁ : Float) (span : Span) → spanOf d₀ d₁ ≡ Over span → Distance (span .lo) → Distance (span .hi) → Both d₀ d₁
+span-distances : (d₀ d₁ : Float) (span : Span) → spanOf d₀ d₁ ≡ Over span → Distance (span .lo) → Distance (span .hi) → Both d₀ d₁
 unfolding spanOf spread
 span-distances d₀ d₁ span e L H = go (le d₀ d₁) (lt (absOf (sub binary64 d₁ d₀)) half) (lt (absOf (sub binary64 d₀ d₁)) half) e
   where
@@ -112,11 +119,11 @@ nearest-within : (line : List Point) (stop : Point) → nearestOf line stop ≤ 
 unfolding nearestOf
 nearest-within line stop = omega (arith, nearest-from 0 largest 0 stop line (omega arith))
 
-pub record Sailed (line : List Point) (route : Route) : Type 0 where
-  pub whole : routeOf line (route .part) ≡ route
-  pub stretched : route .part .first < route .part .last
-  pub long : T (not (lt (route .total) one))
-  pub within : route .part .last ≤ length line
+record Sailed (line : List Point) (route : Route) : Type 0 where
+  whole : routeOf line (route .part) ≡ route
+  stretched : route .part .first < route .part .last
+  long : T (not (lt (route .total) one))
+  within : route .part .last ≤ length line
 
 routed-sailed : (line : List Point) (part : Part) (way : Way) (prev next : Point) → part .first < part .last → part .last ≤ length line →
     (route : Route) (w : Way) → routedOf line part way prev next ≡ Routed·over route w → Sailed line route
@@ -134,7 +141,7 @@ routed-sailed line part way prev next s i route w e = go (lt total one) (roundab
     go false true h e = absurd (true≢false (cc))
     go false false h e = let q : the ≡ route = cc in subst (λ (r : Route). Sailed line r) q (record { whole = refl; stretched = s; long = h tt; within = i })
 
-pub route-sailed : (line : List Point) (prev next : Point) (route : Route) (w : Way) → routeBetween line prev next ≡ Routed·over route w → Sailed line route
+route-sailed : (line : List Point) (prev next : Point) (route : Route) (w : Way) → routeBetween line prev next ≡ Routed·over route w → Sailed line route
 unfolding routeBetween
 route-sailed line prev next route w e = go (ltb i j) (ltb j i) (ltb→lt i j) (ltb→lt j i) e
   where
@@ -150,3 +157,57 @@ route-sailed line prev next route w e = go (ltb i j) (ltb j i) (ltb→lt i j) (l
     go true y p q e = routed-sailed line (record { first = i; last = j }) With prev next (p tt) (nearest-within line next) route w e
     go false true p q e = routed-sailed line (record { first = j; last = i }) Against prev next (q tt) (nearest-within line prev) route w e
     go false false p q e = absurd (true≢false (cc))
+
+route-on-part : (line : List Point) (route : Route) (way : Way) → Sailed line route → (f : Float) → Inside f → OnPart (route .part) (spotAlong line route way f)
+unfolding routeOf
+route-on-part line route way s f i =
+    subst (λ (r : Route). OnPart (route .part) (spotAlong line r way f)) (s .whole)
+    (sailed-on-part line (route .part) way (s .stretched) (subst (λ (r : Route). T (not (lt (r .total) one))) (sym (s .whole)) (s .long)) f i)
+
+-- ---- of every path that can be chosen
+
+module _ (shape chain : List Point) (from to : Point) where
+  -- one straight stretch between the leg's ends
+  pub record Straightly (path : Path) : Type 0 where
+    pub spots : (f : Float) → Inside f → spotOf shape chain path f ≡ Straight f
+    pub starts : at (pathLine shape chain from to path) (pathPart shape path .first) ≡ from
+    pub ends : at (pathLine shape chain from to path) (pathPart shape path .last) ≡ to
+
+  -- on the part's stretches, or on none
+  abbrev pub Partly : Path → Type 0
+  Partly path = (f : Float) → Inside f → OnPart (pathPart shape path) (spotOf shape chain path f)
+
+  chain-on : Chained from to chain → Straightly (overChain chain) ⊎ Partly (overChain chain)
+  unfolding routeOf
+  chain-on c = go (chain-on-part chain (wholeOf chain) (let h = c .points in omega arith))
+    where
+      go : ((f : Float) → Inside f → alongOf chain (routeOf chain (wholeOf chain)) f ≡ Straight f) ⊎
+          ((f : Float) → Inside f → OnPart (wholeOf chain) (alongOf chain (routeOf chain (wholeOf chain)) f)) →
+          Straightly (overChain chain) ⊎ Partly (overChain chain)
+      go (inl e) = inl (record { spots = e; starts = c .starts; ends = c .ends })
+      go (inr h) = inr h
+
+  -- a path is the one or the other, at every fraction strictly between the leg's ends, and at NaN: so it is never at its bare first vertex
+  pub on-path : {path : Path} → Chosen shape chain from to path → Straightly path ⊎ Partly path
+  on-path (spanned d₀ d₁ span e) = inr (λ f i. over-on-part shape span f)
+  on-path (routed route way e) = inr (route-on-part shape route way (route-sailed shape from to route way e))
+  on-path (chained c) = chain-on c
+  on-path straight = inl (record { spots = λ f i. refl; starts = refl; ends = refl })
+
+  -- its stretches are few
+  pub path-few : {path : Path} → Chosen shape chain from to path → length shape ≤ 8192 → length chain ≤ 1000002 → stretches (pathPart shape path) ≤ 4194304
+  unfolding routeOf
+  path-few (spanned d₀ d₁ span e) a b = omega arith
+  path-few (routed route way e) a b = omega (arith, route-sailed shape from to route way e .within)
+  path-few (chained c) a b = omega arith
+  path-few straight a b = omega arith
+
+  -- a larger fraction gives no earlier spot
+  pub spots-onward : {path : Path} → Chosen shape chain from to path → Granted shape chain path → stretches (pathPart shape path) ≤ 4194304 → (f g : Float) → T (le f g) →
+      Spot·noEarlier (pathPart shape path) (pathWay path) (spotOf shape chain path f) (spotOf shape chain path g)
+  unfolding routeOf
+  spots-onward (spanned d₀ d₁ span e) granted few f g h =
+      let d = span-distances d₀ d₁ span e (granted .distances .0) (granted .distances .1) in never-earlier-by-distance shape d₀ d₁ (d .here) (d .there) (granted .lengths) span e f g h
+  spots-onward (routed route way e) granted few f g h = never-earlier-polyline shape from to route way e (granted .lengths) few f g h
+  spots-onward (chained c) granted few f g h = unfold routeOf in never-earlier-on-line chain (wholeOf chain) (granted .lengths) few f g h
+  spots-onward straight granted few f g h = inr (refl, h)

@@ -1,4 +1,4 @@
--- `Turns`: turns of places. `Spots`: what a walk along a path gives strictly between a leg's ends. `Chosen`: which paths are chosen.
+-- `Turns`: turns of places. `Spots`: what a walk along a part gives strictly between a leg's ends. `Chosen`: which paths can be chosen, and what holds of each.
 -- `Agree`: a position is that of the place. `Onward`: a larger fraction gives no earlier place.
 pub mod Turns
 pub mod Spots

@@ -1,7 +1,7 @@
 -- Along a leg a larger fraction gives no earlier place. Assumes nothing.
-use Prim.Native.Nat.{ℕ, suc, _*_, _-_, _<_, _≤_}
+use Prim.Native.Nat.{ℕ, _*_, _-_, _<_, _≤_}
 use native.Mathlib.Omega.{arith}
-use mathlib.Core.Path.{_≡_, refl, sym, subst}
+use mathlib.Core.Path.{_≡_, refl, sym}
 use mathlib.Core.Logic.{_⊎_, inl, inr}
 use mathlib.Core.Bool.{Bool, true, false, not, cond}
 use mathlib.Core.List.{List}
@@ -12,33 +12,28 @@ use Rattle.floats.specs.Number.{nought, one}
 use Rattle.floats.proofs.Order.{trans-le}
 use Rattle.lengths.specs.declared.line.Point.{Point}
 use Rattle.calibration.specs.declared.affine.Calibrated.{Calibrated}
-use Rattle.stretches.specs.Part.{stretches, wholeOf}
-use Rattle.stretches.specs.Spot.{turnedOf}
+use Rattle.stretches.specs.Part.{stretches}
 use Rattle.stretches.specs.declared.part.Part.{Part}
 use Rattle.stretches.specs.declared.spot.Spot.{Spot}
 use Rattle.stretches.specs.declared.spot.Spot.the-variants.{First, Stretch, Straight, NoStretch}
 use Rattle.stretches.specs.declared.spot.Way.{Way}
 use Rattle.stretches.specs.declared.spot.Way.the-variants.{With, Against}
-use Rattle.routes.specs.Route.{routeOf, alongOf}
 use Rattle.along_order.specs.Order.{NoEarlier as Spot·noEarlier}
-use Rattle.along_order.specs.Granted.{Lengths}
-use Rattle.along_order.proofs.Along.{Inside, never-earlier-on-line, never-earlier-polyline}
-use Rattle.along_order.proofs.ByDistance.{never-earlier-by-distance}
-use Rattle.legs.specs.Path.{pathKind, pathPart, pathWay, spotOf, overChain, pathOf}
+use Rattle.along_order.proofs.Along.{Inside}
+use Rattle.legs.specs.Path.{pathKind, pathPart, pathWay, spotOf, pathOf}
 use Rattle.legs.specs.Place.{placeOf}
 use Rattle.legs.specs.Walk.{startOf, endOf, insideLeg, walkOf}
 use Rattle.legs.specs.Order.{turnOf, Along, InLeg, NoEarlier}
 use Rattle.legs.specs.Granted.{Chained, Granted}
 use Rattle.legs.specs.declared.path.Mark.{Mark}
 use Rattle.legs.specs.declared.path.Path.{Path}
-use Rattle.legs.specs.declared.path.Path.the-variants.{ByDistance, Polyline}
+use Rattle.legs.specs.declared.path.Path.the-variants.{Straight as Path·straight}
 use Rattle.legs.specs.declared.path.Line.{Line}
 use Rattle.legs.specs.declared.place.Place.the-variants.{End}
 use Rattle.legs.specs.declared.walk.Walked.{Walked}
 use Rattle.legs.proofs.Turns.{spot-turn}
-use Rattle.legs.proofs.Spots.{OnPart, over-on-part, chain-on-part}
-use Rattle.legs.proofs.Chosen.{Chosen, spanned, routed, chained, straight, path-chosen, span-distances, Sailed, route-sailed}
-use Rattle.legs.proofs.Agree.{polyline-on-part}
+use Rattle.legs.proofs.Spots.{OnPart}
+use Rattle.legs.proofs.Chosen.{Chosen, straight, path-chosen, Straightly, Partly, on-path, path-few, spots-onward}
 
 -- ---- from spots to places
 
@@ -89,44 +84,26 @@ end-last k kind way (Stretch v t) = tt
 end-last k kind way (Straight t) = tt
 end-last k kind way NoStretch = tt
 
--- ---- strictly between a leg's ends
+-- ---- along a leg
 
 module _ (k : ℕ) (shape chain : List Point) (from to : Point) where
+  -- strictly between its ends
   abbrev Goes : Path → Float → Float → Type 0
   Goes path f g = InLeg (placeOf k (pathKind path) (pathWay path) (spotOf shape chain path f)) (placeOf k (pathKind path) (pathWay path) (spotOf shape chain path g))
 
-  chain-goes : Chained from to chain → length chain ≤ 1000002 → Lengths chain (wholeOf chain) → (f g : Float) → Inside f → Inside g → T (le f g) → Goes (overChain chain) f g
-  chain-goes c few granted f g i j h = go (chain-on-part chain (wholeOf chain) (let p = c .points in omega arith))
-    where
-      go : ((x : Float) → Inside x → alongOf chain (routeOf chain (wholeOf chain)) x ≡ Straight x) ⊎ ((x : Float) → Inside x → OnPart (wholeOf chain) (alongOf chain (routeOf chain (wholeOf chain)) x)) →
-          Goes (overChain chain) f g
-      go (inl e) = rw (e f i, e g j) (refl, refl, inr (refl, h))
-      go (inr p) =
-          in-leg k (pathKind (overChain chain)) (wholeOf chain) With (alongOf chain (routeOf chain (wholeOf chain)) f) (alongOf chain (routeOf chain (wholeOf chain)) g) (p f i) (p g j)
-          (never-earlier-on-line chain (wholeOf chain) granted (omega arith) f g h)
-
-  path-goes : {path : Path} → Chosen shape chain from to path → Granted shape chain path → Chained from to chain → length shape ≤ 8192 → length chain ≤ 1000002 →
-      (f g : Float) → Inside f → Inside g → T (le f g) → Goes path f g
-  path-goes (spanned d₀ d₁ span e) granted c a b f g i j h =
-      let d = span-distances d₀ d₁ span e (granted .distances .0) (granted .distances .1) in
-      in-leg k (pathKind (ByDistance span)) (wholeOf shape) (span .way) (spotOf shape chain (ByDistance span) f) (spotOf shape chain (ByDistance span) g) (over-on-part shape span f) (over-on-part shape span g)
-      (never-earlier-by-distance shape d₀ d₁ (d .here) (d .there) (granted .lengths) span e f g h)
-  path-goes (routed route way e) granted c a b f g i j h =
-      let s = route-sailed shape from to route way e in
-      in-leg k (pathKind (Polyline route way)) (route .part) way (spotOf shape chain (Polyline route way) f) (spotOf shape chain (Polyline route way) g) (polyline-on-part shape route way s f i)
-      (polyline-on-part shape route way s g j) (never-earlier-polyline shape from to route way e (granted .lengths) (omega (arith, s .within)) f g h)
-  path-goes chained granted c a b f g i j h = chain-goes c b (unfold routeOf in granted .lengths) f g i j h
-  path-goes straight granted c a b f g i j h = (refl, refl, inr (refl, h))
-
-  -- ---- at any two fractions
+  goes-inside : (path : Path) (f g : Float) → Inside f → Inside g → T (le f g) → Spot·noEarlier (pathPart shape path) (pathWay path) (spotOf shape chain path f) (spotOf shape chain path g) →
+      Straightly shape chain from to path ⊎ Partly shape chain from to path → Goes path f g
+  goes-inside path f g i j h n (inl s) = rw (s .spots f i, s .spots g j) (refl, refl, inr (refl, h))
+  goes-inside path f g i j h n (inr p) = in-leg k (pathKind path) (pathPart shape path) (pathWay path) (spotOf shape chain path f) (spotOf shape chain path g) (p f i) (p g j) n
 
   -- on every path that can be chosen
-  pub never-earlier : {path : Path} → Chosen shape chain from to path → Granted shape chain path → Chained from to chain → length shape ≤ 8192 → length chain ≤ 1000002 →
+  pub never-earlier : {path : Path} → Chosen shape chain from to path → Granted shape chain path → stretches (pathPart shape path) ≤ 4194304 →
       (f g : Float) → T (fits binary64 f) → T (fits binary64 g) → T (le f g) → NoEarlier (walkOf k shape chain from to path f .place) (walkOf k shape chain from to path g .place)
   unfolding walkOf
-  never-earlier {path} p granted c a b f g F G h =
+  never-earlier {path} p granted few f g F G h =
       go (le f nought) (le one f) (le g nought) (le one g) (trans-le f g nought h) (λ x. trans-le one f g x h)
-      (λ x y z w. path-goes p granted c a b f g (record { held = F; above = x; below = y }) (record { held = G; above = z; below = w }) h)
+      (λ x y z w. goes-inside path f g (record { held = F; above = x; below = y }) (record { held = G; above = z; below = w }) h (spots-onward shape chain from to p granted few f g h)
+      (on-path shape chain from to p))
     where
       walked : Bool → Bool → Float → Walked
       walked x y r = cond x (startOf k from to) (cond y (endOf k from to) (insideLeg k shape chain from to path r))
@@ -145,9 +122,14 @@ module _ (k : ℕ) (shape chain : List Point) (from to : Point) where
       go false false false false p q r = inr (rw (turn f, turn g) refl, r tt tt tt tt)
 
   -- on the path of a trip that is found
-  pub walk-never-earlier : (calibrated : Calibrated) (d₀ d₁ : Mark) →
+  pub walk-never-earlier : (calibrated : Calibrated) (d₀ d₁ : Mark) → Chained from to chain → length shape ≤ 8192 → length chain ≤ 1000002 →
       let path = pathOf shape calibrated d₀ d₁ chain from to in
-      Granted shape chain path → Chained from to chain → length shape ≤ 8192 → length chain ≤ 1000002 → (f g : Float) → T (fits binary64 f) → T (fits binary64 g) → T (le f g) →
+      Granted shape chain path → (f g : Float) → T (fits binary64 f) → T (fits binary64 g) → T (le f g) →
       NoEarlier (walkOf k shape chain from to path f .place) (walkOf k shape chain from to path g .place)
-  walk-never-earlier calibrated d₀ d₁ granted c a b f g F G h =
-      never-earlier (path-chosen shape chain from to calibrated d₀ d₁) granted c a b f g F G h
+  walk-never-earlier calibrated d₀ d₁ c a b granted f g F G h =
+      let p = path-chosen shape chain from to c calibrated d₀ d₁ in never-earlier p granted (path-few shape chain from to p a b) f g F G h
+
+  -- and where there is none
+  pub walk-never-earlier-straight : (f g : Float) → T (fits binary64 f) → T (fits binary64 g) → T (le f g) →
+      NoEarlier (walkOf k shape chain from to Path·straight f .place) (walkOf k shape chain from to Path·straight g .place)
+  walk-never-earlier-straight f g F G h = never-earlier straight (record { lengths = tt; distances = tt }) (omega arith) f g F G h

@@ -7,7 +7,6 @@ use mathlib.Core.Bool.{Bool, true, false, not, cond}
 use mathlib.Core.List.{List}
 use lib.Dec.{T, ltb, lt→ltb}
 use lib.Ieee.{Float, binary64, mul, lt, le}
-use lib.ListN.{length}
 use Rattle.floats.specs.Number.{nought, one}
 use Rattle.ieee.specs.Number.{clamp01Of}
 use Rattle.lengths.specs.declared.line.Point.{Point}

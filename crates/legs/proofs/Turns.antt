@@ -1,5 +1,5 @@
 -- Turns of places: each place of leg k has the turn before call k's, and a later turn is no earlier. Assumes nothing.
-use Prim.Native.Nat.{ℕ, _*_, _-_, _<_, _≤_}
+use Prim.Native.Nat.{ℕ, _*_, _-_, _<_}
 use native.Mathlib.Omega.{arith}
 use mathlib.Core.Path.{_≡_, refl}
 use mathlib.Core.Logic.{inl, inr}

@@ -1,5 +1,4 @@
 -- How a leg is drawn, and which path is chosen: without the fraction. Definitions only.
-use Prim.Native.Nat.{ℕ}
 use mathlib.Core.Bool.{cond}
 use mathlib.Core.List.{List, [], _∷_}
 use lib.Dec.{ltb}
@@ -13,7 +12,7 @@ use Rattle.stretches.specs.declared.part.Part.{Part}
 use Rattle.stretches.specs.declared.spot.Spot.{Spot}
 use Rattle.stretches.specs.declared.spot.Spot.the-variants.{Straight as Spot·straight}
 use Rattle.stretches.specs.declared.spot.Way.{Way}
-use Rattle.stretches.specs.declared.spot.Way.the-variants.{With, Against}
+use Rattle.stretches.specs.declared.spot.Way.the-variants.{With}
 use Rattle.by_distance.specs.Span.{spanOf, feedMetres}
 use Rattle.by_distance.specs.Interpolate.{spotOver}
 use Rattle.by_distance.specs.declared.span.Spanned.{Spanned}

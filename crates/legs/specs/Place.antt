@@ -1,7 +1,6 @@
 -- Where a ferry is on a leg, and the coordinates there. Definitions only.
 use Prim.Native.Nat.{ℕ, suc}
 use mathlib.Core.List.{List}
-use lib.Ieee.{Float}
 use Rattle.lengths.specs.declared.line.Point.{Point}
 use Rattle.stretches.specs.Part.{at}
 use Rattle.stretches.specs.Drawing.{betweenOf}
@@ -10,14 +9,14 @@ use Rattle.stretches.specs.declared.spot.Spot.{Spot}
 use Rattle.stretches.specs.declared.spot.Spot.the-variants.{First, Stretch as Spot·stretch, Straight as Spot·straight, NoStretch as Spot·none}
 use Rattle.stretches.specs.declared.spot.Way.{Way}
 use Rattle.stretches.specs.declared.spot.Way.the-variants.{With}
-use Rattle.legs.specs.Path.{legLine, pathLine, pathPart}
+use Rattle.legs.specs.Path.{legLine, pathPart}
 use Rattle.legs.specs.declared.path.Path.{Path}
 use Rattle.legs.specs.declared.path.Line.{Line}
 use Rattle.legs.specs.declared.path.Line.the-variants.{Straight}
 use Rattle.legs.specs.declared.place.Place.{Place}
 use Rattle.legs.specs.declared.place.Place.the-variants.{Call, Start, End, Stretch, NoStretch}
 
--- The place that a spot of a line is on leg k. A straight line is one stretch, from the leg's start to its end. A leg's path is never at its bare first vertex: theorem `on-path`.
+-- The place that a spot of a line is on leg k. A straight line is one stretch, from the leg's start to its end. A leg's path is never at its bare first vertex: `on-path` in proofs/Chosen.antt.
 abbrev pub placeOf : ℕ → Line → Way → Spot → Place
 placeOf k kind way First = Start k
 placeOf k kind way (Spot·stretch v t) = Stretch k kind way v t
