@@ -1,47 +1,15 @@
 //! Which limits of matching a question meets. Counted beside the comparison, so that a run shows that it reached them.
 #![allow(dead_code)]
+use crate::met::Met;
 use crate::taken::pack::StaticEpoch;
 use crate::taken::siri_trip_map::{line_product_code, line_token_from_journey_ref, siri_ref_lookup_keys};
 use crate::timetable::{is_active, way};
 use crate::worlds::make::date_of;
 use crate::worlds::texts::LONGEST;
 use crate::worlds::{Journey, Service, World};
-use std::collections::{BTreeMap, BTreeSet};
+use std::collections::BTreeSet;
 
 const DAY: i64 = 86_400;
-
-/// What was met, and how often.
-#[derive(Default)]
-pub struct Met(BTreeMap<&'static str, u64>);
-
-impl Met {
-    pub fn note(&mut self, fact: bool, name: &'static str) {
-        *self.0.entry(name).or_insert(0) += fact as u64;
-    }
-
-    /// Counts what another has counted.
-    pub fn add(&mut self, other: &Met) {
-        for (name, count) in &other.0 {
-            *self.0.entry(name).or_insert(0) += count;
-        }
-    }
-
-    /// Whether the other counted something that is here fewer than so many times.
-    pub fn wants(&self, other: &Met, times: u64) -> bool {
-        other.0.iter().any(|(name, &count)| count > 0 && self.0.get(name).is_none_or(|&so_far| so_far < times))
-    }
-
-    /// Whether something that was looked for is here fewer than so many times.
-    pub fn lacks(&self, times: u64) -> bool {
-        self.0.values().any(|&count| count < times)
-    }
-
-    pub fn print(&self) {
-        for (name, count) in &self.0 {
-            println!("    {name:<72} {count:>9}");
-        }
-    }
-}
 
 /// The way by which the Rust answers a journey, and the limits that it meets: of line and time, and of the tail, where no id answers.
 pub fn of_journey(w: &World, epoch: &StaticEpoch, j: &Journey) -> (&'static str, Met) {

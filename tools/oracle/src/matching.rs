@@ -6,6 +6,7 @@
 mod draw;
 mod lent;
 mod limits;
+mod met;
 mod port_matching;
 mod timetable;
 mod worlds;
@@ -16,7 +17,7 @@ mod taken {
 }
 
 use draw::Draw;
-use limits::Met;
+use met::Met;
 use std::time::Instant;
 use worlds::smaller::smaller;
 use worlds::{lay, make, rows, Asked, World};

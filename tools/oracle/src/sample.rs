@@ -2,51 +2,15 @@
 //!
 //!     sample FOLDER     writes FOLDER/questions and FOLDER/answers
 mod inputs;
+mod replayed;
 mod rust;
 mod standin;
 
 use inputs::draw::Draw;
 use inputs::pairs::{self, Pair};
 use inputs::{fixed, narrows, roots, twos, values};
+use replayed::{asked, digits, digits_f32, Sample};
 use rust::taken::estimate;
-use std::fs;
-use std::path::Path;
-
-/// The lines so far. Line for line, an answer belongs to a question.
-struct Sample {
-    questions: String,
-    answers: String,
-    lines: usize,
-}
-
-impl Sample {
-    fn add(&mut self, name: &str, arguments: &[f64], answer: String) {
-        self.questions.push_str(name);
-        for x in arguments {
-            self.questions.push_str(&format!(" {:016x}", x.to_bits()));
-        }
-        self.questions.push('\n');
-        self.answers.push_str(&answer);
-        self.answers.push('\n');
-        self.lines += 1;
-    }
-}
-
-fn digits(x: f64) -> String {
-    if x.is_nan() {
-        "7ff8000000000000".to_string()
-    } else {
-        format!("{:016x}", x.to_bits())
-    }
-}
-
-fn digits_f32(x: f32) -> String {
-    if x.is_nan() {
-        "7fc00000".to_string()
-    } else {
-        format!("{:08x}", x.to_bits())
-    }
-}
 
 // Haversine and bearing: the fixed pairs, six pairs of each kind
 
@@ -66,7 +30,7 @@ fn measure(sample: &mut Sample, stream: u64, name: &str, rust: fn(f64, f64, f64,
         } else {
             format!("refused {}", rust::OFF_GLOBE)
         };
-        sample.add(name, &pair, answer);
+        sample.add(&asked(name, &pair), &answer);
     }
 }
 
@@ -132,13 +96,13 @@ fn drawn(stream: u64, further: &[f64], kinds: &[fn(&mut Draw) -> f64], each: usi
 
 fn one(sample: &mut Sample, name: &str, rust: fn(f64) -> f64, values: Vec<f64>) {
     for x in values {
-        sample.add(name, &[x], digits(rust(x)));
+        sample.add(&asked(name, &[x]), &digits(rust(x)));
     }
 }
 
 fn narrow(sample: &mut Sample, values: Vec<f64>) {
     for x in values {
-        sample.add("narrow", &[x], digits_f32(rust::narrow(x)));
+        sample.add(&asked("narrow", &[x]), &digits_f32(rust::narrow(x)));
     }
 }
 
@@ -173,12 +137,12 @@ fn two(sample: &mut Sample, stream: u64, name: &str, rust: fn(f64, f64) -> f64) 
             continue;
         }
         assert!(name != "max" || x != 0.0 || y != 0.0 || x.to_bits() == y.to_bits(), "Rust leaves this max open");
-        sample.add(name, &[x, y], digits(rust(x, y)));
+        sample.add(&asked(name, &[x, y]), &digits(rust(x, y)));
     }
 }
 
 fn whole_sample() -> Sample {
-    let mut sample = Sample { questions: String::new(), answers: String::new(), lines: 0 };
+    let mut sample = Sample::default();
     let s = &mut sample;
     measure(s, 33, "haversine", estimate::haversine_m);
     measure(s, 34, "bearing", estimate::bearing_deg);
@@ -200,10 +164,5 @@ fn whole_sample() -> Sample {
 
 fn main() -> std::io::Result<()> {
     let folder = std::env::args().nth(1).expect("usage: sample FOLDER");
-    let folder = Path::new(&folder);
-    let sample = whole_sample();
-    fs::write(folder.join("questions"), &sample.questions)?;
-    fs::write(folder.join("answers"), &sample.answers)?;
-    println!("{} questions and answers in {}", sample.lines, folder.display());
-    Ok(())
+    whole_sample().write(&folder)
 }

@@ -6,6 +6,7 @@
 mod draw;
 mod lent;
 mod limits;
+mod met;
 mod timetable;
 mod worlds;
 
@@ -15,7 +16,7 @@ mod taken {
 }
 
 use draw::Draw;
-use limits::Met;
+use met::Met;
 use std::fs;
 use std::path::Path;
 use worlds::{make, rows, Asked, World};

@@ -101,6 +101,26 @@ fn slack(d: &mut Draw, n: usize) -> Vec<Point> {
 const LINES: [fn(&mut Draw, usize) -> Vec<Point>; 10] =
     [onward, out_and_back, looped, repeated, scattered, antimeridian, antipodal, with_nan, wild, slack];
 
+/// What the kinds are called.
+const KINDS: [&str; 10] = [
+    "onward",
+    "out and back",
+    "looped",
+    "repeated vertices",
+    "scattered",
+    "over the antimeridian",
+    "NaN lengths",
+    "NaN vertices",
+    "any bits",
+    "about the slack",
+];
+
+/// A short line of the i-th kind, and what it is called.
+pub fn short(d: &mut Draw, i: u64) -> (&'static str, Vec<Point>) {
+    let n = if d.below(8) == 0 { d.below(41) } else { d.below(10) };
+    (in_turn(&KINDS, i), in_turn(&LINES, i)(d, n as usize))
+}
+
 /// The i-th line: most are short, some long, and now and then one has as many vertices as a line may.
 pub fn line(d: &mut Draw, i: u64) -> Vec<Point> {
     let n = match d.below(2000) {
@@ -109,6 +129,18 @@ pub fn line(d: &mut Draw, i: u64) -> Vec<Point> {
         _ => d.below(12),
     };
     in_turn(&LINES, i)(d, n as usize)
+}
+
+/// Half a metre and back, or a few floats more or less.
+pub fn half_and_back(d: &mut Draw) -> Vec<Point> {
+    let x = stepped(0.5 / DEGREE, d.whole(-12, 12));
+    vec![(0.0, 0.0), (0.0, x), (0.0, 0.0)]
+}
+
+/// A stretch of less than a millionth of a metre, and on to the north.
+pub fn short_stretch(d: &mut Draw) -> Vec<Point> {
+    let x = d.between(1e-13, 1e-11);
+    vec![(0.0, 0.0), (0.0, x), (d.between(1e-4, 1.0), x)]
 }
 
 /// A stop: at a vertex, beside one, anywhere, at the slack's centre, no position, or none.
