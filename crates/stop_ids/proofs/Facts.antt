@@ -39,9 +39,9 @@ module _ (bytes : List ℕ) (stops : Stops) where
 
 -- What is so of the number in each row of the stop ids, and of the stop of each row of each trip, is so of the stop found; and that has a position.
 module _ (bytes words : List ℕ) (l : Lookup) (Q : ℕ → Type 0)
-  (of-names : (k : ℕ) → k < l .stopkeys .id .starts .n → Q (cellOf words (l .stopkeys .row) k))
-  (of-rows : (j k : ℕ) → j < l .tripkeys .id .starts .n → k < cellOf words (l .trips .count) (cellOf words (l .tripkeys .row) j) →
-  Q (cellOf words (l .times .stop) (cellOf words (l .trips .first) (cellOf words (l .tripkeys .row) j) + k))) where
+    (of-names : (k : ℕ) → k < l .stopkeys .id .starts .n → Q (cellOf words (l .stopkeys .row) k))
+    (of-rows : (j k : ℕ) → j < l .tripkeys .id .starts .n → k < cellOf words (l .trips .count) (cellOf words (l .tripkeys .row) j) →
+    Q (cellOf words (l .times .stop) (cellOf words (l .trips .first) (cellOf words (l .tripkeys .row) j) + k))) where
   abbrev Holds : ℕ → Type 0
   Holds s = (isPositioned bytes (l .stops) s ≡ true) × Q s
 

@@ -20,14 +20,7 @@ fn is_row(bytes: &[u8], words: &[u32], l: Lookup, sequence: u32, k: usize) -> bo
 }
 
 // The stop of the first such row, of n rows from `from` on.
-fn stop_among(
-    bytes: &[u8],
-    words: &[u32],
-    l: Lookup,
-    sequence: u32,
-    from: u32,
-    n: u32,
-) -> Found
+fn stop_among(bytes: &[u8], words: &[u32], l: Lookup, sequence: u32, from: u32, n: u32) -> Found
     ensures { λ r. ⌜ r ≡ stopFrom (now (bytes .entry)) (now (words .entry)) l from (first (rowFrom (now (bytes .entry)) (now (words .entry)) l sequence from) n) ⌝ }
 {
     let column = l.times.stop;
