@@ -10,6 +10,7 @@ use Rattle.ids.specs.Texts.{isAt, orAt}
 use Rattle.ids.specs.declared.lookup.Found.{Found}
 use Rattle.ids.specs.declared.lookup.Found.the-variants.{Nothing}
 use Rattle.refs.specs.Refs.{baseOf}
+use Rattle.tables.specs.declared.lent.Tables.{Tables}
 use Rattle.stop_ids.specs.Stops.{Known, stopOf}
 use Rattle.calls.specs.Rows.{passing}
 use Rattle.calls.specs.Updates.{isSet, isTimed, arrivalOf, departureOf}
@@ -52,3 +53,12 @@ module _ (bytes words : List ℕ) (v : Reported) where
 
   unfoldable pub callDepartures : List ℤ → List ℕ
   callDepartures times = map (departureOf bytes (v .updates) times) callRows
+
+-- what is reported, of all the tables
+abbrev pub reportedOf : Tables → Reported
+reportedOf t =
+    record {
+      lookup = record { stops = t .stops; stopkeys = t .stopkeys; trips = t .trips; tripkeys = t .tripkeys; times = t .times };
+      updates = t .updates;
+      sailing = t .sailing;
+    }
