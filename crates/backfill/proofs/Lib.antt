@@ -1,0 +1,5 @@
+-- `Columns`: rows and their columns. `Written`: what is written into a row. `Telling`: the unit. `Filling`: the rows of a trip, filled one by one.
+pub mod Columns
+pub mod Written
+pub mod Telling
+pub mod Filling
