@@ -1,5 +1,5 @@
 -- Rows and their columns. Assumes nothing.
-use Prim.Native.Nat.{ℕ, zero, suc, _+_, _<_, _≤_}
+use Prim.Native.Nat.{ℕ, zero, suc, _+_, _<_, _≤_, min}
 use native.Mathlib.Omega.{arith}
 use mathlib.Core.Path.{_≡_, refl, sym, ap, _∙_}
 use mathlib.Core.Bool.{Bool, true, false, _||_}
@@ -64,3 +64,10 @@ module _ (p : ℕ → Bool) where
   any-over [] (suc k) h = refl
   any-over (m ∷ ms) zero h = absurd (omega arith)
   any-over (m ∷ ms) (suc k) h = any-over ms k (omega arith)
+
+-- two columns have as many rows as the shorter
+pub rows-least : (ds : List Float) (ms : List ℕ) → length (rowsOf ds ms) ≡ min (length ds) (length ms)
+unfolding rowsOf
+rows-least [] ms = omega arith
+rows-least (d ∷ ds) [] = omega arith
+rows-least (d ∷ ds) (m ∷ ms) = omega (arith, rows-least ds ms)
