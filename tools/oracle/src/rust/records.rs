@@ -7,6 +7,13 @@ pub struct GlobalTrip {
     pub stop_time_len: u32,
 }
 
+pub struct TripRecord {
+    pub shape_id: Option<String>,
+    pub stop_time_start: u32,
+    pub stop_time_len: u32,
+}
+
+#[derive(Clone)]
 pub struct PackedStopTime {
     pub stop_idx: u32,
     pub shape_dist_traveled: Option<f32>,

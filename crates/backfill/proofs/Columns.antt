@@ -1,0 +1,73 @@
+-- Rows and their columns. Assumes nothing.
+use Prim.Native.Nat.{ℕ, zero, suc, _+_, _<_, _≤_, min}
+use native.Mathlib.Omega.{arith}
+use mathlib.Core.Path.{_≡_, refl, sym, ap, _∙_}
+use mathlib.Core.Bool.{Bool, true, false, _||_}
+use mathlib.Core.List.{List, [], _∷_, _++_}
+use lib.ListN.{length, length-map, take, drop, getD, set}
+use lib.Seq.{drop-cons}
+use lib.Ieee.{Float}
+use Rattle.backfill.specs.Rows.{rowsOf, distOf, markOf, distsIn, marksIn}
+use Rattle.backfill.specs.Trip.{anyOf}
+use Rattle.backfill.specs.declared.row.Distance.{Distance}
+
+-- columns of one length are those of their rows
+pub rows-count : (ds : List Float) (ms : List ℕ) → length ds ≡ length ms → length (rowsOf ds ms) ≡ length ds
+unfolding rowsOf
+rows-count [] ms e = refl
+rows-count (d ∷ ds) [] e = absurd (omega arith)
+rows-count (d ∷ ds) (m ∷ ms) e = ap suc (rows-count ds ms (omega arith))
+
+pub dists-back : (ds : List Float) (ms : List ℕ) → length ds ≡ length ms → distsIn (rowsOf ds ms) ≡ ds
+unfolding rowsOf distsIn
+dists-back [] ms e = refl
+dists-back (d ∷ ds) [] e = absurd (omega arith)
+dists-back (d ∷ ds) (m ∷ ms) e = ap (λ (l : List Float). d ∷ l) (dists-back ds ms (omega arith))
+
+pub marks-back : (ds : List Float) (ms : List ℕ) → length ds ≡ length ms → marksIn (rowsOf ds ms) ≡ ms
+unfolding rowsOf marksIn
+marks-back [] [] e = refl
+marks-back [] (m ∷ ms) e = absurd (omega arith)
+marks-back (d ∷ ds) [] e = absurd (omega arith)
+marks-back (d ∷ ds) (m ∷ ms) e = ap (λ (l : List ℕ). m ∷ l) (marks-back ds ms (omega arith))
+
+-- a row that is set, and one that is read
+pub rows-set : (ds : List Float) (ms : List ℕ) (k : ℕ) (row : Distance) → rowsOf (set ds k (row .dist)) (set ms k (row .measured)) ≡ set (rowsOf ds ms) k row
+unfolding rowsOf
+rows-set [] ms k row = refl
+rows-set (d ∷ ds) [] zero row = refl
+rows-set (d ∷ ds) [] (suc k) row = refl
+rows-set (d ∷ ds) (m ∷ ms) zero row = refl
+rows-set (d ∷ ds) (m ∷ ms) (suc k) row = ap (λ (l : List Distance). record { dist = d; measured = m } ∷ l) (rows-set ds ms k row)
+
+pub rows-from : (ds : List Float) (ms : List ℕ) (k : ℕ) (x : Float) → k < length ds → k < length ms →
+    drop k (rowsOf ds ms) ≡ record { dist = getD ds k x; measured = getD ms k 0 } ∷ drop (suc k) (rowsOf ds ms)
+unfolding rowsOf
+rows-from [] ms k x h l = absurd (omega arith)
+rows-from (d ∷ ds) [] k x h l = absurd (omega arith)
+rows-from (d ∷ ds) (m ∷ ms) zero x h l = refl
+rows-from (d ∷ ds) (m ∷ ms) (suc k) x h l = rows-from ds ms k x (omega arith) (omega arith)
+
+-- a search among flags
+module _ (p : ℕ → Bool) where
+  pub any-hit : (ms : List ℕ) (k : ℕ) → k < length ms → p (getD ms k 0) ≡ true → anyOf p (drop k ms) ≡ true
+  unfolding anyOf
+  any-hit ms k h e = rw (drop-cons ms k 0, e)
+
+  pub any-miss : (ms : List ℕ) (k : ℕ) → k < length ms → p (getD ms k 0) ≡ false → anyOf p (drop k ms) ≡ anyOf p (drop (k + 1) ms)
+  unfolding anyOf
+  any-miss ms k h e = let i : suc k ≡ k + 1 = omega arith in rw (drop-cons ms k 0, e) (ap (λ (n : ℕ). anyOf p (drop n ms)) i)
+
+  pub any-over : (ms : List ℕ) (k : ℕ) → length ms ≤ k → anyOf p (drop k ms) ≡ false
+  unfolding anyOf
+  any-over [] zero h = refl
+  any-over [] (suc k) h = refl
+  any-over (m ∷ ms) zero h = absurd (omega arith)
+  any-over (m ∷ ms) (suc k) h = any-over ms k (omega arith)
+
+-- two columns have as many rows as the shorter
+pub rows-least : (ds : List Float) (ms : List ℕ) → length (rowsOf ds ms) ≡ min (length ds) (length ms)
+unfolding rowsOf
+rows-least [] ms = omega arith
+rows-least (d ∷ ds) [] = omega arith
+rows-least (d ∷ ds) (m ∷ ms) = omega (arith, rows-least ds ms)

@@ -1,0 +1,68 @@
+-- What is written into a row, by the unit and by the stop. Assumes nothing.
+use Prim.Native.Nat.{ℕ, _<_, _≤_}
+use native.Mathlib.Omega.{arith}
+use mathlib.Core.Path.{_≡_, refl, sym, ap, _∙_}
+use mathlib.Core.List.{List}
+use borrow.Author.Tests.{eq-eqb, ne-eqb}
+use lib.Ieee.{Float}
+use lib.ListN.{length}
+use Rattle.ieee.specs.Single.{narrowOf}
+use Rattle.calibration.specs.declared.affine.Affine.{Affine}
+use Rattle.lengths.specs.Length.{lengthTo}
+use Rattle.lengths.specs.declared.line.Point.{Point}
+use Rattle.projection.specs.Near.{startOf}
+use Rattle.projection.specs.Projection.{stepOf}
+use Rattle.projection.specs.declared.cursor.Position.{Position}
+use Rattle.projection.specs.declared.cursor.Position.the-variants.{Known, Missing}
+use Rattle.projection.specs.declared.cursor.Step.{Step}
+use Rattle.projection.proofs.Order.{first-from, first-most}
+use Rattle.backfill.specs.Rows.{inFeed, filledBy}
+use Rattle.backfill.specs.Walk.{walkedOf}
+use Rattle.backfill.specs.declared.row.Distance.{Distance}
+use Rattle.backfill.specs.declared.row.Unit.{Unit}
+use Rattle.backfill.specs.declared.row.Unit.the-variants.{Metres, Feed, Unknown}
+use Rattle.backfill.specs.declared.walk.Walked.{Walked}
+
+-- a row that has a distance keeps it
+pub kept : (unit : Unit) (m : Float) (row : Distance) → (row .measured ≡ 0 → ⊥) → filledBy unit m row ≡ row
+unfolding filledBy
+kept unit m row h = rw (ne-eqb _ _ h)
+
+-- one that has none, by the unit
+module _ {unit : Unit} (m : Float) (row : Distance) (h : row .measured ≡ 0) where
+  pub in-metres : unit ≡ Metres → {d : Float} → d ≡ narrowOf m → _≡_ {A = Distance} (record { dist = d; measured = 1 }) (filledBy unit m row)
+  unfolding filledBy
+  in-metres e q = rw (e, eq-eqb _ _ h, q)
+
+  pub in-its-own : {k : Affine} → unit ≡ Feed k → {x d : Float} → x ≡ inFeed k m → d ≡ narrowOf x → _≡_ {A = Distance} (record { dist = d; measured = 1 }) (filledBy unit m row)
+  unfolding filledBy
+  in-its-own e i q = rw (e, eq-eqb _ _ h, q, i)
+
+  pub not-told : unit ≡ Unknown → row ≡ filledBy unit m row
+  unfolding filledBy
+  not-told e = rw (e, eq-eqb _ _ h)
+
+-- a stop's vertex is on the line, and not before the cursor
+module _ (line : List Point) (at : ℕ) (stop : Point) (h : at < length line) {s : Step} (e : s ≡ stepOf line (record { at = at }) stop) where
+  starts : startOf line at ≡ at
+  unfolding startOf
+  starts = omega arith
+
+  pub not-before : at ≤ s .vertex
+  unfolding stepOf
+  not-before = rw e (omega (arith, starts, first-from line at stop))
+
+  pub on-it : s .vertex < length line
+  unfolding stepOf
+  on-it = rw e (omega (arith, first-most line at stop))
+
+-- a stop and its row
+module _ (line : List Point) (unit : Unit) (at : ℕ) {stop : Position} (row : Distance) where
+  pub unplaced : stop ≡ Missing → {sum : Float} → sum ≡ lengthTo line at → _≡_ {A = Walked} (record { at = at; sum = sum; row = row }) (walkedOf line unit at stop row)
+  unfolding walkedOf
+  unplaced e q = rw (e, q)
+
+  pub placed : {point : Point} → stop ≡ Known point → {s : Step} → s ≡ stepOf line (record { at = at }) point → {m : Float} → m ≡ lengthTo line (s .vertex) →
+      {after : Distance} → after ≡ filledBy unit m row → _≡_ {A = Walked} (record { at = s .vertex; sum = m; row = after }) (walkedOf line unit at stop row)
+  unfolding walkedOf stepOf
+  placed e q i f = rw (f, i, e, q)
