@@ -2,10 +2,12 @@
 use Prim.Native.Nat.{ℕ, _+_, _<_, _≤_}
 use native.Mathlib.Omega.{arith}
 use mathlib.Core.Path.{_≡_, refl}
-use mathlib.Core.Bool.{Bool, true, false, not, cond}
+use mathlib.Core.Bool.{Bool, true, false, not, _||_, cond}
 use mathlib.Core.List.{List}
-use lib.Dec.{eqb}
+use lib.Dec.{T, eqb, leb→le}
+use lib.IntN.{ℤ, pos, negsuc}
 use lib.ListN.{length, getD, drop, length-take}
+use lib.Signed.{leZ, _≤ℤ_}
 use Rattle.ids.specs.Pool.{cellOf, idOf}
 use Rattle.ids.specs.declared.lookup.Found.the-variants.{At}
 use Rattle.ids.specs.declared.pool.IdColumn.{IdColumn}
@@ -24,12 +26,12 @@ use Rattle.schedule_rules.specs.Parts.{tripsCauses, callsCauses}
 use Rattle.schedule_rules.proofs.Parts.{trip-rows-within, call-stops-below}
 use Rattle.lookup_rules.specs.Parts.{idRowsCauses}
 use Rattle.lookup_rules.proofs.Parts.{row-ids, row-ids-good, rows-below}
-use Rattle.asked_rules.specs.Parts.{updatesCauses}
-use Rattle.asked_rules.proofs.Parts.{update-stops, sailing-feed}
+use Rattle.asked_rules.specs.Parts.{updatesCauses, arrivalsCauses, updateDeparturesCauses}
+use Rattle.asked_rules.proofs.Parts.{update-stops, sailing-feed, arrivals-between, update-departures-between}
 use Rattle.checks.proofs.Operations.{Estimate}
 use Rattle.stop_ids.specs.Stops.{isPositioned}
 use Rattle.calls.specs.Calls.{Ready, updateStop, callRows, callStops, reportedOf}
-use Rattle.calls.specs.Updates.{isSet}
+use Rattle.calls.specs.Updates.{momentOf, momentAt, isSet, momentOr, isTimed, arrivalOf, departureOf}
 use Rattle.calls.proofs.Calls.{calls-few, update-holds, call-holds}
 
 -- an id is no longer than its length says
@@ -52,6 +54,25 @@ id-row-below p b i most records h k l =
     let m : k < i .row .n = omega (arith, row-ids p b i most records h .starts .many) in
     let z : Sized (length (p .words)) (i .row) (i .row .n) = counted p (drop 4 (idRowsCauses b i most records)) (clear-drop p (idRowsCauses b i most records) h 4) .0 in
     rw (part-at (p .words) z 0 k m) at (rows-below p b i most records h k m (all-count p always refl k))
+
+-- a time that is no later than the last of document 01 is no later moment
+moment-most : (times : List ℤ) (s : Span) (k n : ℕ) → Sized (length times) s n → k < n → getD (partOf times s) k (pos 0) ≤ℤ pos 4102444799 → momentAt times s k ≤ 4102444799
+unfolding momentAt
+moment-most times s k n z l e = go (getD times (s .at + k) (pos 0)) (rw (part-at times z (pos 0) k l) at (e .le)) where
+  go : (x : ℤ) → T (leZ x (pos 4102444799)) → momentOf x ≤ 4102444799
+  go (pos m) q = leb→le m 4102444799 q
+  go (negsuc m) q = omega arith
+
+-- where the first is set it is the first, or else the second, which is
+of-either : (a b : Bool) (x y : ℕ) {most : ℕ} → (a || b) ≡ true → (a ≡ true → x ≤ most) → (b ≡ true → y ≤ most) → cond a x y ≤ most
+of-either true b x y e f g = f refl
+of-either false b x y e f g = g e
+
+or-turned : (a b : Bool) → (a || b) ≡ true → (b || a) ≡ true
+or-turned true true e = refl
+or-turned true false e = refl
+or-turned false true e = refl
+or-turned false false e = e
 
 module _ (p : Pools) (b : Bounds) (t : Tables) (h : Estimate p b t) where
   named-sized : Sized (length (p .bytes)) (t .updates .named) (t .updates .sequence .n)
@@ -107,3 +128,29 @@ module _ (p : Pools) (b : Bounds) (t : Tables) (h : Estimate p b t) where
   pub accepted-call : (i : ℕ) → i < length (callStops (p .bytes) (p .words) (reportedOf t)) →
       (isPositioned (p .bytes) (t .stops) (getD (callStops (p .bytes) (p .words) (reportedOf t)) i 0) ≡ true) × (getD (callStops (p .bytes) (p .words) (reportedOf t)) i 0 < t .stops .lat .n)
   accepted-call = call-holds (p .bytes) (p .words) (reportedOf t) IsStop of-names of-rows
+
+  -- the times of an update that has one are moments of document 01
+  arrival-most : (k : ℕ) → k < t .updates .sequence .n → isSet (p .bytes) (t .updates .arrives) k ≡ true → momentAt (p .times) (t .updates .arrival) k ≤ 4102444799
+  arrival-most k l e =
+      let column : Sized (length (p .times)) (t .updates .arrival) (t .updates .sequence .n) = counted p (arrivalsCauses (t .updates)) (h .arrivals) .0 in
+      let flags : Sized (length (p .bytes)) (t .updates .arrives) (t .updates .sequence .n) =
+      counted p (drop 1 (arrivalsCauses (t .updates))) (clear-drop p (arrivalsCauses (t .updates)) (h .arrivals) 1) .0 in
+      moment-most (p .times) (t .updates .arrival) k _ column l (arrivals-between p (t .updates) (h .arrivals) k l (set-counts p (t .updates .arrives) _ k flags l e) .1)
+
+  departure-most : (k : ℕ) → k < t .updates .sequence .n → isSet (p .bytes) (t .updates .departs) k ≡ true → momentAt (p .times) (t .updates .departure) k ≤ 4102444799
+  departure-most k l e =
+      let column : Sized (length (p .times)) (t .updates .departure) (t .updates .sequence .n) = counted p (updateDeparturesCauses (t .updates)) (h .departures) .0 in
+      let flags : Sized (length (p .bytes)) (t .updates .departs) (t .updates .sequence .n) =
+      counted p (drop 1 (updateDeparturesCauses (t .updates))) (clear-drop p (updateDeparturesCauses (t .updates)) (h .departures) 1) .0 in
+      moment-most (p .times) (t .updates .departure) k _ column l (update-departures-between p (t .updates) (h .departures) k l (set-counts p (t .updates .departs) _ k flags l e) .1)
+
+  pub accepted-arrival : (k : ℕ) → k < t .updates .sequence .n → isTimed (p .bytes) (t .updates) k ≡ true → arrivalOf (p .bytes) (t .updates) (p .times) k ≤ 4102444799
+  unfolding isTimed momentOr
+  accepted-arrival k l e =
+      of-either (isSet (p .bytes) (t .updates .arrives) k) (isSet (p .bytes) (t .updates .departs) k) _ _ e (arrival-most k l) (departure-most k l)
+
+  pub accepted-departure : (k : ℕ) → k < t .updates .sequence .n → isTimed (p .bytes) (t .updates) k ≡ true → departureOf (p .bytes) (t .updates) (p .times) k ≤ 4102444799
+  unfolding isTimed momentOr
+  accepted-departure k l e =
+      of-either (isSet (p .bytes) (t .updates .departs) k) (isSet (p .bytes) (t .updates .arrives) k) _ _
+      (or-turned (isSet (p .bytes) (t .updates .arrives) k) (isSet (p .bytes) (t .updates .departs) k) e) (departure-most k l) (arrival-most k l)
