@@ -18,7 +18,7 @@ use std::collections::HashMap;
 use std::time::Instant;
 use tally::{same_f32, Tally};
 
-const WORLDS: u64 = 200_000;
+const WORLDS: u64 = 230_000;
 
 /// A world as the Rust is handed it.
 struct Records {
