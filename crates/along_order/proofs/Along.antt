@@ -6,7 +6,7 @@ use mathlib.Core.Logic.{inl, inr}
 use mathlib.Core.Bool.{Bool, true, false, true≢false, not, _||_, cond}
 use mathlib.Core.List.{List}
 use lib.Dec.{T, ltb, ltb→lt, lt→ltb}
-use lib.Ieee.{Float, binary64, mul, div, lt, eq, le, fits, ofInt}
+use lib.Ieee.{Float, nan, inf, fin, binary64, neg, add, sub, mul, div, lt, eq, le, fits, ofInt}
 use lib.Ieee.Fits.{mul-fits}
 use lib.Ieee.Scale.{finite}
 use Rattle.floats.specs.Number.{nought, one}
@@ -32,7 +32,7 @@ use Rattle.polylines.specs.declared.polyline.Routed.{Routed}
 use Rattle.polylines.specs.declared.polyline.Routed.the-variants.{Over, Nothing}
 use Rattle.along_order.specs.Order.{rankOf, NoEarlier}
 use Rattle.along_order.specs.Granted.{Lengths}
-use Rattle.along_order.proofs.Clamp.{zero-zero, clamp-pos, clamp-mono, Aim}
+use Rattle.along_order.proofs.Clamp.{zero-zero, clamp-above, clamp-mono, Aim}
 use Rattle.along_order.proofs.Search.{Before, from, upto, search-mono, meets-some}
 use Rattle.along_order.proofs.Sums.{held, sign, rising, sum-within}
 use Rattle.along_order.proofs.Turned.{sails}
@@ -45,6 +45,15 @@ nano-sign = tt
 pub record Share (f : Float) : Type 0 where
   pub low : T (le nought f)
   pub high : T (le f one)
+
+-- between 0 and 1 it is past the bare first vertex
+inside-from : (line : List Point) (part : Part) → part .first < part .last → (f : Float) → part .first < rankOf part (insideOf line (routeOf line part) f)
+unfolding insideOf routeOf stretchAt
+inside-from line part stretched f = go (lt (partLength line part) one) (mul binary64 (partLength line part) f)
+  where
+    go : (b : Bool) (t : Float) → part .first < rankOf part (cond b (Straight f) (firstMet (lengthFrom line (part .first)) (part .first) nano t 0 (stretches part)))
+    go true t = omega arith
+    go false t = omega (arith, from part (lengthFrom line (part .first)) nano nano-sign t (stretches part) 0 (omega arith))
 
 module _ (line : List Point) (part : Part) (granted : Lengths line part) (few : stretches part ≤ 4194304) (stretched : part .first < part .last) where
   abbrev total : Float
@@ -103,14 +112,6 @@ module _ (line : List Point) (part : Part) (granted : Lengths line part) (few : 
       go true e = absurd (true≢false (cc))
       go false e = let q : stretches part ≡ suc (stretches part - 1) = omega arith in some (rw q at e)
 
-  inside-from : (f : Float) → part .first < rankOf part (insideOf line (routeOf line part) f)
-  unfolding insideOf routeOf stretchAt
-  inside-from f = go (lt (partLength line part) one) (mul binary64 (partLength line part) f)
-    where
-      go : (b : Bool) (t : Float) → part .first < rankOf part (cond b (Straight f) (firstMet (lengthFrom line (part .first)) (part .first) nano t 0 (stretches part)))
-      go true t = omega arith
-      go false t = omega (arith, from part (lengthFrom line (part .first)) nano nano-sign t (stretches part) 0 (omega arith))
-
   inside-upto : (f : Float) → Before part (insideOf line (routeOf line part) f) NoStretch
   unfolding insideOf routeOf stretchAt
   inside-upto f = go (lt (partLength line part) one) (mul binary64 (partLength line part) f)
@@ -135,7 +136,7 @@ along-mono line part granted few f g h = go (ltb (part .first) (part .last)) (lt
         Before part (cond a First (cond b NoStretch (inside f))) (cond c First (cond d NoStretch (inside g)))
     ends s true b true d p q r = inr (refl, zero-zero)
     ends s true b false true p q r = inl (omega arith)
-    ends s true b false false p q r = inl (unfold routeOf in inside-from line part granted few s g)
+    ends s true b false false p q r = inl (unfold routeOf in inside-from line part s g)
     ends s false b true d p q r = absurd (p tt)
     ends s false true false true p q r = inr (refl, zero-zero)
     ends s false true false false p q r = absurd (q tt)
@@ -161,24 +162,40 @@ unfolding spotAlong
 never-earlier-along line part way granted few f g h =
     sails part way (λ x. alongOf line (routeOf line part) (clamp01Of x)) (λ x y k. along-mono line part granted few (clamp01Of x) (clamp01Of y) (clamp-mono x y k)) f g h
 
--- ---- strictly between 0 and 1 it is never the bare first vertex, either way
+-- ---- strictly between 0 and 1, and at NaN, it is never the bare first vertex, either way
 
-turned-pos : (way : Way) (f : Float) → T (fits binary64 f) → T (lt nought f) → T (lt f one) → T (lt nought (turnedOf way f))
-turned-pos With f F a b = a
-turned-pos Against f F a b = one-less-pos binary64 f F b
+-- neither 0 or less nor 1 or more: a fraction strictly between them, or NaN
+pub record Inside (f : Float) : Type 0 where
+  pub held : T (fits binary64 f)
+  pub above : T (not (le f nought))
+  pub below : T (not (le one f))
 
-pub never-first : (line : List Point) (part : Part) (way : Way) → Lengths line part → stretches part ≤ 4194304 → part .first < part .last → (f : Float) → T (fits binary64 f) → T (lt nought f) →
-    T (lt f one) → spotAlong line (routeOf line part) way f ≡ First → ⊥
+not-it : (b : Bool) → T (not b) → T b → ⊥
+not-it true h k = h
+not-it false h k = k
+
+turned-above : (way : Way) (f : Float) → Inside f → T (le (turnedOf way f) nought) → ⊥
+turned-above With f i k = not-it (le f nought) (i .above) k
+turned-above Against nan i k = unfold sub add neg le lt eq in k
+turned-above Against (inf s) i k =
+    lt-not-le nought (sub binary64 one (inf s)) (one-less-pos binary64 (inf s) (i .held) (not-le-lt one (inf s) tt tt (i .below))) k
+turned-above Against (fin s m e) i k =
+    lt-not-le nought (sub binary64 one (fin s m e)) (one-less-pos binary64 (fin s m e) (i .held) (not-le-lt one (fin s m e) tt tt (i .below))) k
+
+pub inside-above : (way : Way) (f : Float) → Inside f → T (le (clamp01Of (turnedOf way f)) nought) → ⊥
+inside-above way f i = clamp-above (turnedOf way f) (turned-above way f i)
+
+pub never-first : (line : List Point) (part : Part) (way : Way) → part .first < part .last → (f : Float) → Inside f → spotAlong line (routeOf line part) way f ≡ First → ⊥
 unfolding spotAlong alongOf routeOf
-never-first line part way granted few s f F a b =
+never-first line part way s f i =
     let x = clamp01Of (turnedOf way f) in
-    go (ltb (part .first) (part .last)) (le x nought) (le one x) (lt→ltb (part .first) (part .last) s) (lt-not-le nought x (clamp-pos (turnedOf way f) (turned-pos way f F a b)))
+    go (ltb (part .first) (part .last)) (le x nought) (le one x) (lt→ltb (part .first) (part .last) s) (inside-above way f i)
   where
     inside : Spot
     inside = insideOf line (record { part = part; total = partLength line part }) (clamp01Of (turnedOf way f))
 
     past-first : part .first < rankOf part inside
-    past-first = unfold routeOf in inside-from line part granted few s (clamp01Of (turnedOf way f))
+    past-first = unfold routeOf in inside-from line part s (clamp01Of (turnedOf way f))
 
     go : (p q r : Bool) → T p → (T q → ⊥) → cond p (cond q First (cond r NoStretch inside)) First ≡ First → ⊥
     go true true r t h e = absurd (h tt)

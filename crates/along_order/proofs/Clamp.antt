@@ -42,14 +42,15 @@ clamp-high x n = go (lt x nought) (lt one x) (not-lt-le one x tt n)
     go false true h = one-one
     go false false h = h tt
 
-pub clamp-pos : (x : Float) → T (lt nought x) → T (lt nought (clamp01Of x))
+-- what is not zero or less does not come to it, nor does NaN
+pub clamp-above : (x : Float) → (T (le x nought) → ⊥) → T (le (clamp01Of x) nought) → ⊥
 unfolding clamp01Of
-clamp-pos x p = go (lt x nought) (lt one x) (λ h. lt-not-le x nought h (lt-le nought x p))
+clamp-above x p = go (lt x nought) (lt one x) (λ h. p (lt-le x nought h))
   where
-    go : (a b : Bool) → (T a → ⊥) → T (lt nought (cond a nought (cond b one x)))
-    go true b h = absurd (h tt)
-    go false true h = one-pos
-    go false false h = p
+    go : (a b : Bool) → (T a → ⊥) → T (le (cond a nought (cond b one x)) nought) → ⊥
+    go true b h k = h tt
+    go false true h k = lt-not-le nought one one-pos k
+    go false false h k = p k
 
 pub clamp-mono : (x y : Float) → T (le x y) → T (le (clamp01Of x) (clamp01Of y))
 unfolding clamp01Of
