@@ -1,0 +1,62 @@
+-- A leg's chain. Definitions only.
+use Prim.Native.Nat.{ℕ, _+_}
+use mathlib.Core.Bool.{Bool, true, false, cond}
+use mathlib.Core.List.{List}
+use lib.Dec.{ltb}
+use lib.Ieee.{Float}
+use Rattle.ids.specs.Pool.{cellOf}
+use Rattle.tables.specs.declared.lent.StopTimes.{StopTimes}
+use Rattle.tables.specs.declared.lent.Stops.{Stops}
+use Rattle.tables.specs.declared.lent.Trips.{Trips}
+use Rattle.lengths.specs.declared.line.Point.{Point}
+use Rattle.projection.specs.declared.cursor.Position.{Position}
+use Rattle.stretches.specs.Part.{wholeOf}
+use Rattle.stretches.specs.Drawing.{drawOf}
+use Rattle.stretches.specs.declared.part.Part.{Part}
+use Rattle.routes.specs.Route.{routeOf, alongOf}
+use Rattle.routes.specs.declared.route.Route.{Route}
+use Rattle.chains.specs.declared.chain.Chain.{Chain}
+use Rattle.chains.specs.declared.questions.OnChain.{OnChain}
+use Rattle.chains.specs.Thin.{chainFrom}
+use Rattle.chains.specs.Stops.{stopBetween, pointsBelow, stopsBetween}
+
+-- where the stop of the i-th row of a chain is, if its sequence is between
+abbrev pub stopOf : List ℕ → List ℕ → List Float → Stops → StopTimes → Chain → ℕ → Position
+stopOf bytes words reals s c chain i = stopBetween bytes words reals s c (chain .lo) (chain .hi) (chain .first + i)
+
+-- the chain's points, where its rows' stops are these
+unfoldable pub lineFrom : (ℕ → Position) → Chain → List Point
+lineFrom stop chain = chainFrom (chain .reversed) (chain .from) (chain .to) (pointsBelow stop (chain .count))
+
+-- the chain's points
+abbrev pub chainLine : List ℕ → List ℕ → List Float → Stops → StopTimes → Chain → List Point
+chainLine bytes words reals s c chain = lineFrom (stopOf bytes words reals s c chain) chain
+
+-- the whole of it, with its length
+unfoldable pub chainRoute : List Point → Route
+chainRoute line = routeOf line (wholeOf line)
+
+-- the rows of a trip with a sequence from lo to hi
+abbrev pub spanned : List ℕ → Trips → ℕ → ℕ → ℕ → Bool → Point → Point → Chain
+spanned words trips trip lo hi reversed from to =
+    record { first = cellOf words (trips .first) trip; count = cellOf words (trips .count) trip; lo = lo; hi = hi; reversed = reversed; from = from; to = to }
+
+-- a leg of a trip, from the sequence s at `from` to the sequence t at `to`: where s is the higher, it is sailed against the order of the rows
+unfoldable pub legChain : List ℕ → Trips → ℕ → ℕ → Point → ℕ → Point → Chain
+legChain words trips trip s from t to = cond (ltb t s) (spanned words trips trip t s true from to) (spanned words trips trip s t false from to)
+
+-- its chain
+abbrev pub chainOf : List ℕ → List ℕ → List Float → Stops → StopTimes → Trips → ℕ → ℕ → Point → ℕ → Point → List Point
+chainOf bytes words reals s c trips trip before from after to = chainLine bytes words reals s c (legChain words trips trip before from after to)
+
+-- how many vertices a chain has, where so many stops are kept
+abbrev pub verticesOf : ℕ → ℕ
+verticesOf kept = cond (ltb kept 2) 2 kept
+
+-- the whole of a line of two points
+abbrev pub two : Part
+two = record { first = 0; last = 1 }
+
+-- where a line is at a fraction of a route over it: the spot, and the position there
+unfoldable pub onChain : List Point → Route → Float → OnChain
+onChain line route f = let spot = alongOf line route f in record { spot = spot; drawn = drawOf line (route .part) spot }
