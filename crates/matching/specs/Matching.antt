@@ -6,7 +6,7 @@ use Rattle.ids.specs.Bytes.{upperOf}
 use Rattle.ids.specs.First.{orElse}
 use Rattle.ids.specs.declared.lookup.Found.{Found}
 use Rattle.ids.specs.declared.lookup.Found.the-variants.{Nothing}
-use Rattle.refs.specs.Tokens.{tokenOf}
+use Rattle.tokens.specs.Tokens.{tokenOf}
 use Rattle.trip_ids.specs.Trips.{Known, idTrip, tailTrip}
 use Rattle.trip_times.specs.Line.{lineTrip, Planned, ShortTokens}
 use Rattle.trip_times.specs.declared.fit.Count.{Count}

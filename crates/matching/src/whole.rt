@@ -32,7 +32,7 @@ fn by_time<'a>(
     requires { ⌜ ShortTokens (now bytes) (now words) p ⌝ }
     ensures { λ r. ⌜ r ≡ timedTrip (now (bytes .entry)) (now (words .entry)) p (now (base .entry)) (now (route .entry)) departs today yesterday ⌝ }
 {
-    let token = refs::token_of(route, base);
+    let token = tokens::token_of(route, base);
     if !departs {
         return Found::Nothing;
     }

@@ -1,5 +1,3 @@
--- `Words`: the fixed texts. `Refs`: journey refs taken apart. `Tokens`: the token of a line. `Stops`: the digits of a stop's text.
+-- `Words`: the fixed texts. `Refs`: journey refs taken apart.
 pub mod Words
 pub mod Refs
-pub mod Tokens
-pub mod Stops

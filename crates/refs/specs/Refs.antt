@@ -1,29 +1,14 @@
 -- Journey refs taken apart. Each part is itself a text of the ref; an empty text stands for none.
 use Prim.Native.Nat.{ℕ, _-_}
 use mathlib.Core.Bool.{Bool, _&&_, _||_, cond}
-use mathlib.Core.List.{List, [], _∷_}
-use lib.Dec.{leb, eqb}
+use mathlib.Core.List.{List, []}
+use lib.Dec.{eqb}
 use lib.ListN.{length, getD, take, drop}
 use Rattle.ids.specs.declared.byte.Kind.the-variants.{Byte}
-use Rattle.ids.specs.declared.lookup.Found.{Found}
-use Rattle.ids.specs.declared.lookup.Found.the-variants.{At, Nothing}
 use Rattle.ids.specs.Bytes.{isOf}
 use Rattle.ids.specs.Texts.{prefixOf, suffixOf, equalIgnoringCase, firstByte, lastByte, firstPlace, runOf, trimmedOf, trimmedText}
+use Rattle.parts.specs.Parts.{upTo, past, afterLast, ifLong, orText}
 use Rattle.refs.specs.Words.{colons, loc, locWord, lowFeed, highFeed, serviceJourney, vehicleJourney}
-
--- the text before the place, or the other text
-abbrev pub upTo : Found → List ℕ → List ℕ → List ℕ
-upTo (At k) s t = take k s
-upTo Nothing s t = t
-
--- the text from n bytes after the place on, or the other text
-abbrev pub past : ℕ → Found → List ℕ → List ℕ → List ℕ
-past n (At k) s t = drop n (drop k s)
-past n Nothing s t = t
-
--- the text after the last byte b, or all of it
-abbrev pub afterLast : ℕ → List ℕ → List ℕ
-afterLast b s = past 1 (lastByte s b) s s
 
 -- a trip key before its last '@', or all of it: the base key
 abbrev pub baseOf : List ℕ → List ℕ
@@ -65,11 +50,6 @@ afterKind s = cond (isKind (upTo (firstByte s 58) s [])) (withoutLocPart (past 1
 unfoldable pub afterParts : List ℕ → List ℕ
 afterParts s = afterKind (past 1 (firstByte s 58) s [])
 
--- the first that is not empty
-abbrev pub orText : List ℕ → List ℕ → List ℕ
-orText [] t = t
-orText (b ∷ s) t = b ∷ s
-
 -- the journey id of a ref
 unfoldable pub journeyIdOf : List ℕ → List ℕ
 journeyIdOf s = orText (afterColons s) (afterParts s)
@@ -89,10 +69,6 @@ dashed s = eqb (length s) 36 && (dashAt s 8 && (dashAt s 13 && (dashAt s 18 && d
 -- the same between spaces
 unfoldable pub isUuid : List ℕ → Bool
 isUuid j = dashed (bare j)
-
--- a text if it has that many bytes, or none
-abbrev pub ifLong : ℕ → List ℕ → List ℕ
-ifLong n s = cond (leb n (length s)) s []
 
 -- the tail of a base key by which a trip id may be known
 unfoldable pub tailOf : List ℕ → List ℕ

@@ -1,4 +1,4 @@
--- The fixed texts of gtfs/siri_trip_map.rs, and the one of rt/estimate.rs that marks a stop's digits, as bytes.
+-- The fixed texts of journey refs, of gtfs/siri_trip_map.rs, as bytes.
 use Prim.Native.Nat.{ℕ}
 use mathlib.Core.List.{List, [], _∷_}
 
@@ -30,14 +30,6 @@ serviceJourney = 83 ∷ 101 ∷ 114 ∷ 118 ∷ 105 ∷ 99 ∷ 101 ∷ 74 ∷ 11
 abbrev pub vehicleJourney : List ℕ
 vehicleJourney = 86 ∷ 101 ∷ 104 ∷ 105 ∷ 99 ∷ 108 ∷ 101 ∷ 74 ∷ 111 ∷ 117 ∷ 114 ∷ 110 ∷ 101 ∷ 121 ∷ []
 
--- LINE::
-abbrev pub lineMark : List ℕ
-lineMark = 76 ∷ 73 ∷ 78 ∷ 69 ∷ 58 ∷ 58 ∷ []
-
 -- local-
 abbrev pub localMark : List ℕ
 localMark = 108 ∷ 111 ∷ 99 ∷ 97 ∷ 108 ∷ 45 ∷ []
-
--- :Q:
-abbrev pub stopMark : List ℕ
-stopMark = 58 ∷ 81 ∷ 58 ∷ []

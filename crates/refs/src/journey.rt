@@ -1,12 +1,12 @@
 // The journey id of a ref, and whether it is a UUID.
 use crate::key::without_colons;
 use crate::key::without_locs;
-use crate::part::after_last;
-use crate::part::before;
-use crate::part::first;
-use crate::part::from;
-use crate::part::past_place;
 use ids::Kind;
+use parts::after_last;
+use parts::before;
+use parts::first;
+use parts::from;
+use parts::past_place;
 ghost use mathlib.Core.Path.{_≡_};
 ghost use Rattle.refs.specs.Refs.{afterColons, withoutLocPart, isKind, afterKind, afterParts, journeyIdOf, bare, dashed, isUuid};
 

@@ -1,9 +1,9 @@
 // Trip keys less what stands at their ends.
-use crate::part::after_last;
-use crate::part::first;
-use crate::part::from;
-use crate::part::if_long;
 use ids::Found;
+use parts::after_last;
+use parts::first;
+use parts::from;
+use parts::if_long;
 ghost use mathlib.Core.Path.{_≡_};
 ghost use Rattle.refs.specs.Refs.{baseOf, rawOf, withoutLoc, withoutColons, withoutLocs, tailOf};
 

@@ -11,7 +11,7 @@ use Rattle.columns.specs.Rows.{some}
 use Rattle.ieee.specs.Number.{absOf}
 use Rattle.calibration.specs.Scale.{decimal, firstNear, nearUnit}
 use Rattle.refs.specs.Refs.{journeyIdOf, afterColons, afterParts, afterKind, isKind, withoutLocPart}
-use Rattle.refs.specs.Stops.{stopDigitsOf, digitsFirst, digitsLast, markedDigits}
+use Rattle.stop_digits.specs.Stops.{stopDigitsOf, digitsFirst, digitsLast, markedDigits}
 use Rattle.trip_times.specs.Line.{bestOf, beside, isCrowded}
 use Rattle.soundings.specs.Soundings.{Soundings}
 

@@ -15,7 +15,7 @@ use Rattle.days.specs.declared.date.ReadDate.the-variants.{Day, NotADate}
 use Rattle.maths.specs.Series.{whole}
 use Rattle.calibration.specs.Scale.{decimal, snapUnitScale}
 use Rattle.refs.specs.Refs.{journeyIdOf}
-use Rattle.refs.specs.Stops.{stopDigitsOf}
+use Rattle.stop_digits.specs.Stops.{stopDigitsOf}
 use Rattle.trip_times.specs.Fits.{away, ifRuns, nearer}
 use Rattle.trip_times.specs.Line.{alone, bestOf}
 use Rattle.trip_times.specs.declared.fit.Fit.{Fit}

@@ -11,7 +11,8 @@ use Rattle.ids.specs.Texts.{prefixOf, suffixOf, holds, firstByte}
 use Rattle.ids.specs.declared.lookup.Found.{Found}
 use Rattle.ids.specs.declared.lookup.Found.the-variants.{At, Nothing}
 use Rattle.ids.specs.declared.pool.Span.{Span}
-use Rattle.refs.specs.Refs.{upTo, rawOf, withoutLoc, journeyIdOf, isUuid, tailOf}
+use Rattle.parts.specs.Parts.{upTo}
+use Rattle.refs.specs.Refs.{rawOf, withoutLoc, journeyIdOf, isUuid, tailOf}
 use Rattle.refs.specs.Words.{loc, localMark}
 use Rattle.tables.specs.declared.lent.Aliases.{Aliases}
 use Rattle.tables.specs.declared.lent.IdRows.{IdRows}

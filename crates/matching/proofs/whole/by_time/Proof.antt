@@ -5,7 +5,7 @@ use Rattle.matching.specs.Matching.{timedTrip}
 use Rattle.matching.proofs.Tokens.{no-token, with-token}
 use Rattle.matching.proofs.whole.by_time.Statement.{statement}
 use Rattle.matching.proofs.whole.by_time.Tie as tie
-use Rattle.refs.proofs.token_of.Reads as token-of-reads
+use Rattle.tokens.proofs.token_of.Reads as token-of-reads
 use Rattle.trip_times.proofs.by_token.Reads as by-token-reads
 
 token-of-requires : tie.Need-token-of-requires

@@ -5,7 +5,7 @@ use Rattle.refs.proofs.journey.after_colons.Tie as tie
 use Rattle.ids.proofs.first_place.Reads as first-place-reads
 use Rattle.refs.proofs.key.without_colons.Reads as without-colons-reads
 use Rattle.refs.proofs.key.without_locs.Reads as without-locs-reads
-use Rattle.refs.proofs.part.past_place.Reads as past-place-reads
+use Rattle.parts.proofs.past_place.Reads as past-place-reads
 
 slice-aggregate-first-place : tie.Need-slice-aggregate-first-place
 slice-aggregate-first-place c = search needs

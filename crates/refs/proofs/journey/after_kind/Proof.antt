@@ -2,14 +2,15 @@ use borrow.Author.Needs.{needs}
 use mathlib.Core.Path.{_∙_, sym, ap}
 use mathlib.Core.List.{[]}
 use Rattle.ids.specs.declared.lookup.Found.{Found}
-use Rattle.refs.specs.Refs.{afterKind, isKind, upTo}
+use Rattle.parts.specs.Parts.{upTo}
+use Rattle.refs.specs.Refs.{afterKind, isKind}
 use Rattle.refs.proofs.journey.after_kind.Statement.{statement}
 use Rattle.refs.proofs.journey.after_kind.Tie as tie
 use Rattle.ids.proofs.first_of.Reads as first-of-reads
 use Rattle.refs.proofs.journey.is_kind.Reads as is-kind-reads
 use Rattle.refs.proofs.journey.without_loc_part.Reads as without-loc-part-reads
-use Rattle.refs.proofs.part.before.Reads as before-reads
-use Rattle.refs.proofs.part.past_place.Reads as past-place-reads
+use Rattle.parts.proofs.before.Reads as before-reads
+use Rattle.parts.proofs.past_place.Reads as past-place-reads
 
 first-of-requires : tie.Need-first-of-requires
 first-of-requires c κs = search needs

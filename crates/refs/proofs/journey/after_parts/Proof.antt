@@ -4,7 +4,7 @@ use Rattle.refs.proofs.journey.after_parts.Statement.{statement}
 use Rattle.refs.proofs.journey.after_parts.Tie as tie
 use Rattle.ids.proofs.first_of.Reads as first-of-reads
 use Rattle.refs.proofs.journey.after_kind.Reads as after-kind-reads
-use Rattle.refs.proofs.part.past_place.Reads as past-place-reads
+use Rattle.parts.proofs.past_place.Reads as past-place-reads
 
 first-of-requires : tie.Need-first-of-requires
 first-of-requires c κs = search needs

@@ -3,8 +3,8 @@ use Rattle.refs.proofs.journey.bare_text.Statement.{statement}
 use Rattle.refs.proofs.journey.bare_text.Tie as tie
 use Rattle.ids.proofs.run.Reads as run-reads
 use Rattle.ids.proofs.trimmed.Reads as trimmed-reads
-use Rattle.refs.proofs.part.first.Reads as first-reads
-use Rattle.refs.proofs.part.from.Reads as from-reads
+use Rattle.parts.proofs.first.Reads as first-reads
+use Rattle.parts.proofs.from.Reads as from-reads
 
 run-requires : tie.Need-run-requires
 run-requires c κs = search needs

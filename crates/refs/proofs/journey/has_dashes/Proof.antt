@@ -1,8 +1,13 @@
 use borrow.Author.Needs.{needs}
 use borrow.Author.Tests.{eq-eqb, ne-eqb}
-use Rattle.refs.proofs.Either.{last-of-five}
+use mathlib.Core.Path.{_≡_}
+use mathlib.Core.Bool.{Bool, true, _&&_}
 use Rattle.refs.proofs.journey.has_dashes.Statement.{statement}
 use Rattle.refs.proofs.journey.has_dashes.Tie as tie
+
+-- Of five tests four hold: the fifth decides.
+last-of-five : (a b c d e : Bool) → a ≡ true → b ≡ true → c ≡ true → d ≡ true → e ≡ (a && (b && (c && (d && e))))
+last-of-five a b c d e p q r s = simp (p, q, r, s)
 
 returns : tie.Need-returns
 returns c = simp (ne-eqb _ _ (c .if1 .taken))

@@ -1,7 +1,7 @@
 use borrow.Author.Needs.{needs}
 use mathlib.Core.Path.{_∙_, sym, ap}
 use Rattle.refs.specs.Refs.{journeyIdOf}
-use Rattle.refs.proofs.Either.{or-empty, or-some}
+use Rattle.parts.proofs.Either.{or-empty, or-some}
 use Rattle.refs.proofs.journey.journey_id.Statement.{statement}
 use Rattle.refs.proofs.journey.journey_id.Tie as tie
 use Rattle.refs.proofs.journey.after_colons.Reads as after-colons-reads

@@ -9,8 +9,8 @@ use Rattle.refs.proofs.journey.without_loc_part.Statement.{statement}
 use Rattle.refs.proofs.journey.without_loc_part.Tie as tie
 use Rattle.ids.proofs.equal_ignoring_case.Reads as equal-ignoring-case-reads
 use Rattle.ids.proofs.last_of.Reads as last-of-reads
-use Rattle.refs.proofs.part.after_last.Reads as after-last-reads
-use Rattle.refs.proofs.part.before.Reads as before-reads
+use Rattle.parts.proofs.after_last.Reads as after-last-reads
+use Rattle.parts.proofs.before.Reads as before-reads
 
 after-last-requires : tie.Need-after-last-requires
 after-last-requires c κs = search needs

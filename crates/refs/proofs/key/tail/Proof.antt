@@ -4,8 +4,8 @@ use Rattle.refs.proofs.key.tail.Statement.{statement}
 use Rattle.refs.proofs.key.tail.Tie as tie
 use Rattle.refs.proofs.key.without_colons.Reads as without-colons-reads
 use Rattle.refs.proofs.key.without_loc.Reads as without-loc-reads
-use Rattle.refs.proofs.part.after_last.Reads as after-last-reads
-use Rattle.refs.proofs.part.if_long.Reads as if-long-reads
+use Rattle.parts.proofs.after_last.Reads as after-last-reads
+use Rattle.parts.proofs.if_long.Reads as if-long-reads
 
 without-colons-requires : tie.Need-without-colons-requires
 without-colons-requires c κs = search needs

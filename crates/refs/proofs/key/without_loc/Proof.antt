@@ -6,7 +6,7 @@ use Rattle.refs.specs.Words.{loc}
 use Rattle.refs.proofs.key.without_loc.Statement.{statement}
 use Rattle.refs.proofs.key.without_loc.Tie as tie
 use Rattle.ids.proofs.ends_with.Reads as ends-with-reads
-use Rattle.refs.proofs.part.first.Reads as first-reads
+use Rattle.parts.proofs.first.Reads as first-reads
 
 slice-aggregate-ends-with : tie.Need-slice-aggregate-ends-with
 slice-aggregate-ends-with c = search needs

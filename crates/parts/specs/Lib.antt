@@ -1,0 +1,2 @@
+-- `Parts`: parts of a text.
+pub mod Parts

@@ -1,0 +1,2 @@
+-- `Stops`: the digits of a stop's text.
+pub mod Stops

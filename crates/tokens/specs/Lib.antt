@@ -1,0 +1,2 @@
+-- `Tokens`: the token of a line.
+pub mod Tokens
