@@ -81,7 +81,7 @@ fn or_text(bytes: &[u8], words: &[u32], l: Lookup, found: Found, feed: &[u8], te
     ensures { λ r. ⌜ r ≡ orElse found (firstStop (now (bytes .entry)) (now (words .entry)) l (textKeys (now (feed .entry)) (now (text .entry)))) ⌝ }
 {
     let first = or_stop(bytes, words, l, found, b"", b"", text);
-    let d = refs::stop_digits(text);
+    let d = stop_digits::stop_digits(text);
     if d.len() == 0 {
         return first;
     }
