@@ -164,8 +164,8 @@ module _ (bytes words : List ℕ) (reals : List Float) (t : Tables) (trip : ℕ)
         (putMid first (first + n - first) ds ds′ ≡ distsIn after) × (putMid first (first + n - first) ms ms′ ≡ marksIn after)
     trip-filled f c h l s d m =
         rw (d, m, l, s, f, c) (let r : firstRow + rowCount ≤ length ds = omega (arith, h, f, c) in
-          rw (part-rows firstRow rowCount ds ms same r, filled r)
-          (after-dists firstRow rowCount ds ms same r _, after-marks firstRow rowCount ds ms same r _))
+        rw (part-rows firstRow rowCount ds ms same r, filled r)
+        (after-dists firstRow rowCount ds ms same r _, after-marks firstRow rowCount ds ms same r _))
 
 -- the loop over the trips: where it stands before trip k
 module _ (bytes words : List ℕ) (reals : List Float) (t : Tables) (a e : ℕ) (ds₀ : List Float) (ms₀ : List ℕ) where

@@ -115,9 +115,9 @@ full line unit (f ∷ fs) [] e = refl
 full line unit (f ∷ fs) (row ∷ rows) e =
     let own : filledAt line unit f row ≡ row = own-kept f (eqb-false _ _ (or-left (eqb (row .measured) 0) _ e)) in
     rw (own, full line unit fs rows (or-right (eqb (row .measured) 0) _ e)) where
-  own-kept : (f : Found) → (row .measured ≡ 0 → ⊥) → filledAt line unit f row ≡ row
-  own-kept (At v) h = kept unit (lengthTo line v) row h
-  own-kept Nothing h = refl
+      own-kept : (f : Found) → (row .measured ≡ 0 → ⊥) → filledAt line unit f row ≡ row
+      own-kept (At v) h = kept unit (lengthTo line v) row h
+      own-kept Nothing h = refl
 
 -- backfill, by the tests that lead to it
 module _ (line : List Point) (stops : List Position) (ds : List Float) (ms : List ℕ) (same : length ds ≡ length ms) where

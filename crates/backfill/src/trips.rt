@@ -244,5 +244,16 @@ pub fn backfill_trip(
     let firsts = trips.first;
     let n = firsts.n as usize;
     let e = end_of(trip, n);
-    backfill(bytes, words, times, reals, dists, t, trip, e, dist, measured)
+    backfill(
+        bytes,
+        words,
+        times,
+        reals,
+        dists,
+        t,
+        trip,
+        e,
+        dist,
+        measured,
+    )
 }

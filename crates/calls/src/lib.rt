@@ -15,3 +15,6 @@ pub use moment::fill_arrivals;
 pub use moment::fill_departures;
 pub use stop::Reported;
 pub use stop::update_stop;
+pub use update::is_set;
+pub use update::moment_at;
+pub use update::time;

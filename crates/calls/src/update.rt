@@ -28,7 +28,7 @@ fn moment_of(t: i64) -> u64
 }
 
 // Row k of a column of times, or 0 past the end of the pool.
-fn time(times: &[i64], span: Span, k: usize) -> i64
+pub fn time(times: &[i64], span: Span, k: usize) -> i64
     ensures { λ r. ⌜ r ≡ getD (now (times .entry)) (span .at + k) (pos 0) ⌝ }
 {
     if times.len() <= k {
@@ -42,7 +42,7 @@ fn time(times: &[i64], span: Span, k: usize) -> i64
 }
 
 // The same as a moment.
-fn moment(times: &[i64], span: Span, k: usize) -> u64
+pub fn moment_at(times: &[i64], span: Span, k: usize) -> u64
     ensures { λ r. ⌜ r ≡ momentAt (now (times .entry)) span k ⌝ }
 {
     moment_of(time(times, span, k))
@@ -53,9 +53,9 @@ pub fn moment_or(bytes: &[u8], times: &[i64], has: Span, own: Span, other: Span,
     ensures { λ r. ⌜ r ≡ momentOr (now (bytes .entry)) (now (times .entry)) has own other k ⌝ }
 {
     if is_set(bytes, has, k) {
-        return moment(times, own, k);
+        return moment_at(times, own, k);
     }
-    moment(times, other, k)
+    moment_at(times, other, k)
 }
 
 // Whether row k has a time.

@@ -115,9 +115,7 @@ fn first_drawn(
     let here = seek(bytes, words, reals, s, c, chain, marks, n, part.first);
     let p = here.at;
     if part.first < part.last {
-        let there = onward(
-            bytes, words, reals, s, c, chain, marks, n, part.first, here,
-        );
+        let there = onward(bytes, words, reals, s, c, chain, marks, n, part.first, here);
         return on_two(p, there.at, Spot::First);
     }
     Drawn {

@@ -113,15 +113,7 @@ pub fn onward(
     };
     Here {
         left: m,
-        at: point_or(stop_of(
-            bytes,
-            words,
-            reals,
-            s,
-            c,
-            chain,
-            row_of(chain, m),
-        )),
+        at: point_or(stop_of(bytes, words, reals, s, c, chain, row_of(chain, m))),
     }
 }
 

@@ -33,9 +33,7 @@ pub extern "C" fn zebumorn_backfill_trips(
     ensures { λ r. ⌜ now (dist .exit) ≡ filledDists (pools (now (bytes .entry)) (now (words .entry)) (now (times .entry)) (now (reals .entry)) (now (dists .entry))) t 0 (t .trips .first .n) (now (dist .entry)) (now (measured .entry)) ⌝ }
     ensures { λ r. ⌜ now (measured .exit) ≡ filledMarks (pools (now (bytes .entry)) (now (words .entry)) (now (times .entry)) (now (reals .entry)) (now (dists .entry))) t 0 (t .trips .first .n) (now (dist .entry)) (now (measured .entry)) ⌝ }
 {
-    let filled = backfill_trips(
-        bytes, words, times, reals, dists, t, dist, measured,
-    );
+    let filled = backfill_trips(bytes, words, times, reals, dists, t, dist, measured);
     number(filled)
 }
 
@@ -55,8 +53,6 @@ pub extern "C" fn zebumorn_backfill_trip(
     ensures { λ r. ⌜ now (dist .exit) ≡ filledDists (pools (now (bytes .entry)) (now (words .entry)) (now (times .entry)) (now (reals .entry)) (now (dists .entry))) t trip (oneOf trip (t .trips .first .n)) (now (dist .entry)) (now (measured .entry)) ⌝ }
     ensures { λ r. ⌜ now (measured .exit) ≡ filledMarks (pools (now (bytes .entry)) (now (words .entry)) (now (times .entry)) (now (reals .entry)) (now (dists .entry))) t trip (oneOf trip (t .trips .first .n)) (now (dist .entry)) (now (measured .entry)) ⌝ }
 {
-    let filled = backfill_trip(
-        bytes, words, times, reals, dists, t, trip, dist, measured,
-    );
+    let filled = backfill_trip(bytes, words, times, reals, dists, t, trip, dist, measured);
     number(filled)
 }

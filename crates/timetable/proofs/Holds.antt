@@ -1,10 +1,9 @@
 -- What the cores may take for granted where nothing is refused. Assumes nothing.
-use Prim.Native.Nat.{ℕ, suc, _+_, _-_, _/_, _%_, _^_, _<_, _≤_}
+use Prim.Native.Nat.{ℕ, suc, _+_, _/_, _%_, _^_, _<_}
 use mathlib.Core.Path.{_≡_, refl}
 use mathlib.Core.Bool.{Bool, true, false, not, cond}
 use mathlib.Core.List.{List}
 use native.Mathlib.Omega.{arith}
-use borrow.Author.Tests.{ltb-true, ltb-false}
 use lib.Dec.{T, eqb, ltb, leb→le}
 use lib.IntN.{ℤ, pos, negsuc, _+ℤ_}
 use lib.ListN.{getD, length}
@@ -25,7 +24,7 @@ use Rattle.tables.proofs.Facts.{Sized, Counts, all-count, part-at}
 use Rattle.lookup_rules.proofs.Parts.{row-ids-good, alias-ids-good, line-tokens-short, lines-ascend, calendar-feeds-ascend, ranges-ascend, exceptions-ascend, exception-days, exception-dates}
 use Rattle.asked_rules.proofs.Parts.{journey-departure, journey-departs, journey-offset, journey-departure-between, journey-offset-between}
 use Rattle.checks.specs.Operations.{matchingCauses, serviceDayCauses}
-use Rattle.checks.proofs.Operations.{Calendar, Matching, matching-holds, service-day-holds}
+use Rattle.checks.proofs.Operations.{Calendar, Lookup, Matching, matching-holds, service-day-holds}
 use Rattle.services.specs.Runs.{Calendared}
 use Rattle.services.proofs.Ascends.{lines-in-order}
 use Rattle.services.proofs.Ascends.{ranges-ascend as by-names, exceptions-ascend as by-day}
@@ -34,7 +33,7 @@ use Rattle.matching.specs.Moments.{InReach}
 use Rattle.timetable.specs.Timetable.{namedOf, planOf, timeOf, departsOf, localOf}
 
 -- a moment of document 01 in the local time of an offset
-in-reach : (x y : ℤ) → T (leZ (pos 0) x) → T (leZ x (pos 4102444799)) → T (leZ (negsuc 50399) y) → T (leZ y (pos 50400)) → InReach (x +ℤ y)
+pub in-reach : (x y : ℤ) → T (leZ (pos 0) x) → T (leZ x (pos 4102444799)) → T (leZ (negsuc 50399) y) → T (leZ y (pos 50400)) → InReach (x +ℤ y)
 in-reach (pos n) (pos m) a b c d = omega (arith, leb→le n 4102444799 b, leb→le m 50400 d)
 in-reach (pos n) (negsuc m) a b c d = go (ltb n (suc m)) refl where
   go : (s : Bool) → ltb n (suc m) ≡ s → InReach (pos n +ℤ negsuc m)
@@ -48,8 +47,16 @@ unfolding ordinal
 ordinal-word n h = omega (arith, years-bound (n / 10000), months-bound (leap (n / 10000)) (n / 100 % 100))
 
 -- the first row of a column of one
-first-at : {A : Type 0} (xs : List A) {s : Span} → Sized (length xs) s 1 → (d : A) → getD (partOf xs s) 0 d ≡ getD xs (s .at) d
+pub first-at : {A : Type 0} (xs : List A) {s : Span} → Sized (length xs) s 1 → (d : A) → getD (partOf xs s) 0 d ≡ getD xs (s .at) d
 first-at xs {s} z d = let e : s .at + 0 ≡ s .at = omega arith in rw e at (part-at xs z d 0 (omega arith))
+
+-- a row whose flag is set counts
+pub flag-counts : (p : Pools) {s : Span} {n : ℕ} → Sized (length (p .bytes)) s n → (k : ℕ) → k < n → not (eqb (bitOf (p .bytes) s k) 0) ≡ true → Counts p (whereSet s) k
+unfolding bitOf counts
+flag-counts p {s} z k l f = rw (part-at (p .bytes) z 0 k l) (go (eqb (getD (p .bytes) (s .at + k) 0) 0) f) where
+  go : (b : Bool) → not (eqb (cond b 0 1) 0) ≡ true → not b ≡ true
+  go true g = clash (cc)
+  go false g = refl
 
 module _ (p : Pools) (t : Tables) where
   pub calendared : Calendar p chartBounds t → Calendared (p .bytes) (p .words) (t .calendars) (t .ranges) (t .exceptions)
@@ -64,31 +71,32 @@ module _ (p : Pools) (t : Tables) where
   pub service-ready : (s : Service) → refusalOf p (serviceDayCauses chartBounds t s) ≡ 0 → Calendared (p .bytes) (p .words) (t .calendars) (t .ranges) (t .exceptions)
   service-ready s e = calendared (service-day-holds p chartBounds t s e .calendar)
 
+  -- what a trip is found in: ids and aliases that ascend, lines and calendars in order
+  pub found-ready : Lookup p chartBounds t → Calendar p chartBounds t → Ready (p .bytes) (p .words) (namedOf t) (planOf t)
+  found-ready l c =
+      record {
+        known = record {
+          trip-ids = row-ids-good p chartBounds _ _ _ (l .trip-ids) (omega arith);
+          alias-ids = alias-ids-good p chartBounds _ (l .aliases) (omega arith);
+        };
+        planned = record {
+          lines = lines-in-order (p .bytes) (p .words) _ _ _ (lines-ascend p chartBounds _ _ (l .lines));
+          calendars = calendared c;
+        };
+        short = record { short = line-tokens-short p chartBounds _ _ (l .lines) (omega arith) };
+      }
+
   module _ (j : Journey) (e : refusalOf p (matchingCauses chartBounds t j) ≡ 0) where
     held : Matching p chartBounds t j
     held = matching-holds p chartBounds t j e
 
     pub ready : Ready (p .bytes) (p .words) (namedOf t) (planOf t)
-    ready =
-        record {
-          known = record {
-            trip-ids = row-ids-good p chartBounds _ _ _ (held .lookup .trip-ids) (omega arith);
-            alias-ids = alias-ids-good p chartBounds _ (held .lookup .aliases) (omega arith);
-          };
-          planned = record {
-            lines = lines-in-order (p .bytes) (p .words) _ _ _ (lines-ascend p chartBounds _ _ (held .lookup .lines));
-            calendars = calendared (held .calendar);
-          };
-          short = record { short = line-tokens-short p chartBounds _ _ (held .lookup .lines) (omega arith) };
-        }
+    ready = found-ready (held .lookup) (held .calendar)
 
     -- where there is a first departure, it counts
     departing : departsOf (p .bytes) j ≡ true → Counts p (whereSet (j .departs)) 0
-    unfolding departsOf bitOf counts
-    departing f = rw (part-at (p .bytes) (journey-departs p chartBounds j (held .asked)) 0 0 (omega arith)) (go (eqb (getD (p .bytes) (j .departs .at + 0) 0) 0) f) where
-      go : (s : Bool) → not (eqb (cond s 0 1) 0) ≡ true → not s ≡ true
-      go true g = clash (cc)
-      go false g = refl
+    unfolding departsOf
+    departing f = flag-counts p (journey-departs p chartBounds j (held .asked)) 0 (omega arith) f
 
     -- the first departure, where there is one, is a moment of document 01
     pub local-in-reach : InReach (localOf (p .bytes) (p .times) j)

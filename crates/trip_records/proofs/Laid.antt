@@ -119,8 +119,10 @@ module _ (rs : List StopTime) (bytes : List ℕ) (reals : List Float) (l : Lent)
   records-laid = rw (dists-laid, marks-laid) (each-same rs (λ j s h. filled-same j s h)) where
     filled-same : (j : ℕ) (s : StopTime) → j < length rs → fillRow (distsIn filled ++ drop n ds) (marksIn filled ++ drop n ks) j s ≡ fillRow (distsIn filled) (marksIn filled) j s
     filled-same j s h =
-        rw (List·getD-append (distsIn filled) (drop n ds) nan j (omega (arith, dists-count filled, filled-count)),
-        List·getD-append (marksIn filled) (drop n ks) 0 j (omega (arith, marks-count filled, filled-count)))
+        rw (
+          List·getD-append (distsIn filled) (drop n ds) nan j (omega (arith, dists-count filled, filled-count)),
+          List·getD-append (marksIn filled) (drop n ks) 0 j (omega (arith, marks-count filled, filled-count)),
+        )
 
 -- the core's answer, by the columns of the line
 pub core-is : (bytes ats : List ℕ) (reals : List Float) (l : Lent) (n : ℕ) (ds : List Float) (ks : List ℕ) → {lat : List Float} → lat ≡ partOf reals (l .line .lat) → {lon : List Float} → lon ≡ partOf reals (l .line .lon) →

@@ -2,8 +2,8 @@ use borrow.Author.Needs.{needs}
 use mathlib.Core.Path.{_∙_, ap}
 use mir.Facts.{toZ-ofZ}
 use Rattle.calls.specs.Updates.{momentOf, momentAt}
-use Rattle.calls.proofs.update.moment.Statement.{statement}
-use Rattle.calls.proofs.update.moment.Tie as tie
+use Rattle.calls.proofs.update.moment_at.Statement.{statement}
+use Rattle.calls.proofs.update.moment_at.Tie as tie
 
 time-requires : tie.Need-time-requires
 time-requires c κs = search needs
@@ -15,8 +15,8 @@ returns : tie.Need-returns
 unfolding momentAt
 returns c = c .moment-of .ensures ∙ ap momentOf (toZ-ofZ (record { sfits = c .before .time .ok }) ∙ c .before .time .ensures)
 
-pub moment-spec : {M : Type 1} → statement M
-moment-spec =
+pub moment-at-spec : {M : Type 1} → statement M
+moment-at-spec =
     tie.close
     (tie.spec
     time-requires

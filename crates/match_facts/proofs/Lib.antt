@@ -1,0 +1,2 @@
+-- `Matched`: what is so of the trip that is matched.
+pub mod Matched
