@@ -1,7 +1,7 @@
 -- A chain's vertices: the ends' own, and between them what is kept. Assumes nothing.
-use Prim.Native.Nat.{ℕ, zero, suc, _+_, _-_, _<_, _≤_}
+use Prim.Native.Nat.{ℕ, suc, _+_, _-_, _<_, _≤_}
 use native.Mathlib.Omega.{arith}
-use mathlib.Core.Path.{_≡_, refl, sym, ap, _∙_}
+use mathlib.Core.Path.{_≡_, refl, ap, _∙_}
 use mathlib.Core.Bool.{Bool, true, false}
 use mathlib.Core.List.{List, [], _∷_}
 use mathlib.Core.Logic.{_⊎_, inl, inr, ⊎-elim}
@@ -58,9 +58,9 @@ module _ (from to : Point) (ps : List Point) where
   last-vertex k e =
       ⊎-elim (λ h. let i : k ≡ 1 = omega (arith, few-length h) in rw (few h, i))
       (λ (h : 2 ≤ length ps).
-        let i : k ≡ length ps - 1 = omega (arith, more-length h) in
-        let room : length ps - 1 < length (set ps 0 from) = omega (arith, length-set ps 0 from) in
-        rw (more h, i) (getD-set-same (set ps 0 from) (length ps - 1) to nowhere room))
+      let i : k ≡ length ps - 1 = omega (arith, more-length h) in
+      let room : length ps - 1 < length (set ps 0 from) = omega (arith, length-set ps 0 from) in
+      rw (more h, i) (getD-set-same (set ps 0 from) (length ps - 1) to nowhere room))
       (few-or-more (length ps))
 
   -- one between them

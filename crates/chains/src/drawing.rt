@@ -88,7 +88,7 @@ pub fn along(
 }
 
 // The position on the line of two points.
-fn on_two(p: Point, q: Point, spot: Spot) -> Drawn
+pub fn on_two(p: Point, q: Point, spot: Spot) -> Drawn
     ensures { λ r. ⌜ r ≡ drawOf (p ∷ q ∷ []) two spot ⌝ }
 {
     let lat = [p.lat, q.lat];
@@ -115,9 +115,7 @@ fn first_drawn(
     let here = seek(bytes, words, reals, s, c, chain, marks, n, part.first);
     let p = here.at;
     if part.first < part.last {
-        let there = onward(
-            bytes, words, reals, s, c, chain, marks, n, part.first, here,
-        );
+        let there = onward(bytes, words, reals, s, c, chain, marks, n, part.first, here);
         return on_two(p, there.at, Spot::First);
     }
     Drawn {

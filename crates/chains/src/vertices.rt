@@ -9,7 +9,7 @@ use lengths::Point;
 use tables::StopTimes;
 use tables::Stops;
 ghost use mathlib.Core.Path.{_≡_};
-ghost use Prim.Native.Nat.{suc, _≤_};
+ghost use Prim.Native.Nat.{suc};
 ghost use lib.ListN.{length};
 ghost use Rattle.ids.specs.First.{last};
 ghost use Rattle.chains.specs.Chain.{stopOf, lineFrom};
@@ -113,15 +113,7 @@ pub fn onward(
     };
     Here {
         left: m,
-        at: point_or(stop_of(
-            bytes,
-            words,
-            reals,
-            s,
-            c,
-            chain,
-            row_of(chain, m),
-        )),
+        at: point_or(stop_of(bytes, words, reals, s, c, chain, row_of(chain, m))),
     }
 }
 

@@ -18,7 +18,7 @@ Inv-loop bytes words reals s c chain marks n part target all here₀ sum₀ j₀
     (j ≤ all) × (Stands (stopOf bytes words reals s c chain) chain here (part .first + j))
     × (sum ≡ lengthFrom (lineFrom (stopOf bytes words reals s c chain) chain) (part .first) j)
     × (stretchAt (lineFrom (stopOf bytes words reals s c chain) chain) part nano target
-      ≡ firstMet (lengthFrom (lineFrom (stopOf bytes words reals s c chain) chain) (part .first)) (part .first) nano target j (all - j))
+    ≡ firstMet (lengthFrom (lineFrom (stopOf bytes words reals s c chain) chain) (part .first)) (part .first) nano target j (all - j))
 
 abbrev μ-loop : tie.MeasureT-loop
 μ-loop bytes words reals s c chain marks n part target all here₀ sum₀ j₀ here sum j = all - j
