@@ -1,15 +1,13 @@
 -- A pass over a chain stands at its vertices, one after the other. Assumes nothing.
-use Prim.Native.Nat.{ℕ, zero, suc, _+_, _-_, _<_, _≤_}
+use Prim.Native.Nat.{ℕ, suc, _+_, _-_, _<_, _≤_}
 use native.Mathlib.Omega.{arith}
 use mathlib.Core.Path.{_≡_, refl, sym, ap, _∙_}
 use mathlib.Core.Bool.{Bool, true, false, cond}
 use mathlib.Core.List.{List, [], _∷_, map}
-use lib.ListN.{length, drop, length-drop, getD, List·getD-eq-default}
+use lib.ListN.{length, drop, getD, List·getD-eq-default}
 use lib.Seq.{drop-cons}
 use Rattle.ids.specs.First.{last}
-use Rattle.ids.specs.declared.lookup.Found.{Found}
 use Rattle.ids.specs.declared.lookup.Found.the-variants.{At, Nothing}
-use Rattle.ids.proofs.ByteOrder.{clash}
 use Rattle.ids.proofs.Search.{last-found}
 use Rattle.lengths.specs.Line.{nowhere}
 use Rattle.lengths.specs.declared.line.Point.{Point}
@@ -17,8 +15,7 @@ use Rattle.projection.specs.declared.cursor.Position.{Position}
 use Rattle.stretches.specs.Part.{at}
 use Rattle.chains.specs.declared.chain.Chain.{Chain}
 use Rattle.chains.specs.declared.vertices.Here.{Here}
-use Rattle.chains.specs.Thin.{turnedIf, thinned, chainFrom, ended}
-use Rattle.chains.specs.Stops.{pointOr, pointsBelow}
+use Rattle.chains.specs.Thin.{turnedIf, chainFrom, ended}
 use Rattle.chains.specs.Chain.{lineFrom}
 use Rattle.chains.specs.Kept.{rowKept}
 use Rattle.chains.specs.Marks.{Marked}
@@ -59,6 +56,15 @@ module _ (stop : ℕ → Position) (chain : Chain) where
 
   pub rows-and-two : length line ≤ chain .count + 2
   rows-and-two = rw line-is (omega (arith, two-more-at-most (chain .from) (chain .to) kept, kept-count, at-most stop (chain .count)))
+
+  -- it starts at one end of the leg, and ends at the other
+  pub starts-at : at line 0 ≡ chain .from
+  starts-at = rw line-is (first-vertex (chain .from) (chain .to) kept)
+
+  pub ends-at : at line (length line - 1) ≡ chain .to
+  ends-at =
+      let e : suc (length line - 1) ≡ length (ended (chain .from) (chain .to) kept) = omega (arith, two-or-more, ap length line-is) in
+      ap (λ (l : List Point). at l (length line - 1)) line-is ∙ last-vertex (chain .from) (chain .to) kept (length line - 1) e
 
   -- as many as are kept, but two at least
   pub few-kept : length (keptBelow stop (chain .count)) < 2 → length line ≡ 2

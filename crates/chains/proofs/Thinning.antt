@@ -1,5 +1,5 @@
 -- A pass over rows keeps the points that are thinned, one by one. Assumes nothing.
-use Prim.Native.Nat.{ℕ, zero, suc, _+_, _<_, _≤_}
+use Prim.Native.Nat.{ℕ, zero, suc, _+_, _≤_}
 use native.Mathlib.Omega.{arith}
 use native.Mathlib.Numerals.{add-one}
 use mathlib.Core.Path.{_≡_, refl, sym, ap, _∙_}
@@ -11,7 +11,6 @@ use Rattle.lengths.specs.Line.{nowhere}
 use Rattle.lengths.specs.declared.line.Point.{Point}
 use Rattle.projection.specs.declared.cursor.Position.{Position}
 use Rattle.projection.specs.declared.cursor.Position.the-variants.{Known, Missing}
-use Rattle.chains.specs.declared.kept.Last.{Last}
 use Rattle.chains.specs.Thin.{isNear, thinAfter, thinned}
 use Rattle.chains.specs.Stops.{pointOr, pointsOf, pointsBelow}
 use Rattle.chains.specs.Kept.{isDropped, isKept, afterOf, lastOr, lastOf, rowKept}

@@ -18,13 +18,13 @@ use Rattle.routes.specs.declared.route.Route.{Route}
 use Rattle.chains.specs.declared.chain.Chain.{Chain}
 use Rattle.chains.specs.declared.questions.OnChain.{OnChain}
 use Rattle.chains.specs.Thin.{chainFrom}
-use Rattle.chains.specs.Stops.{stopBetween, pointsBelow, stopsBetween}
+use Rattle.chains.specs.Stops.{stopBetween, pointsBelow}
 
--- where the stop of the i-th row of a chain is, if its sequence is between
+-- where the stop of the i-th row of a chain is, if its sequence is from lo to hi and the stop has a position
 abbrev pub stopOf : List ℕ → List ℕ → List Float → Stops → StopTimes → Chain → ℕ → Position
 stopOf bytes words reals s c chain i = stopBetween bytes words reals s c (chain .lo) (chain .hi) (chain .first + i)
 
--- the chain's points, where its rows' stops are these
+-- the chain's points, where its rows' stops are these: those with a position, in the order of the rows, thinned, turned, and ended
 unfoldable pub lineFrom : (ℕ → Position) → Chain → List Point
 lineFrom stop chain = chainFrom (chain .reversed) (chain .from) (chain .to) (pointsBelow stop (chain .count))
 

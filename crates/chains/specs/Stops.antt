@@ -35,7 +35,3 @@ pointsOf Missing = []
 unfoldable pub pointsBelow : (ℕ → Position) → ℕ → List Point
 pointsBelow stop zero = []
 pointsBelow stop (suc n) = pointsBelow stop n ++ pointsOf (stop n)
-
--- the positions of the stops of n rows from `first` on, in order, whose sequence is from lo to hi and whose stop has a position
-abbrev pub stopsBetween : List ℕ → List ℕ → List Float → Stops → StopTimes → ℕ → ℕ → ℕ → ℕ → List Point
-stopsBetween bytes words reals s c first n lo hi = pointsBelow (λ (i : ℕ). stopBetween bytes words reals s c lo hi (first + i)) n

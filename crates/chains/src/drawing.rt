@@ -88,7 +88,7 @@ pub fn along(
 }
 
 // The position on the line of two points.
-fn on_two(p: Point, q: Point, spot: Spot) -> Drawn
+pub fn on_two(p: Point, q: Point, spot: Spot) -> Drawn
     ensures { λ r. ⌜ r ≡ drawOf (p ∷ q ∷ []) two spot ⌝ }
 {
     let lat = [p.lat, q.lat];

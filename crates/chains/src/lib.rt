@@ -14,6 +14,7 @@ mod vertices; // from a vertex of a chain to the next
 
 pub use chain::Chain;
 pub use chain::chain_of;
+pub use drawing::on_two;
 pub use questions::OnChain;
 pub use questions::chain_route;
 pub use questions::chain_walk;

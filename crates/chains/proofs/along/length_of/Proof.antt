@@ -1,7 +1,7 @@
 -- `chains::along::length_of` meets its contract. The loop's invariant: it stands at the j-th vertex of the part, and the sum is the length to it.
 use Prim.Native.Nat.{suc, _+_, _-_, _≤_}
 use native.Mathlib.Omega.{arith}
-use mathlib.Core.Path.{_≡_, refl, sym, ap, subst, _∙_}
+use mathlib.Core.Path.{_≡_, refl, ap, subst, _∙_}
 use lib.Ieee.{ofBits}
 use Rattle.stretches.specs.Part.{lengthFrom, partLength}
 use Rattle.chains.specs.Chain.{stopOf, lineFrom}

@@ -1,5 +1,4 @@
 -- `chains::kept::near` meets its contract.
-use mathlib.Core.Path.{sym, ap, _∙_}
 use Rattle.chains.specs.Thin.{isClose, isNear}
 use Rattle.chains.proofs.Small.{nano-is}
 use Rattle.chains.proofs.kept.near.Statement.{statement}

@@ -2,7 +2,7 @@
 use borrow.Author.Needs.{needs}
 use Prim.Native.Nat.{_≤_}
 use native.Mathlib.Omega.{arith}
-use mathlib.Core.Path.{_≡_, refl, sym, ap, _∙_}
+use mathlib.Core.Path.{_≡_, refl, sym, _∙_}
 use Rattle.ids.specs.First.{last}
 use Rattle.ids.proofs.Search.{last-hit, last-miss, last-skip}
 use Rattle.chains.specs.Vertices.{markedAhead}

@@ -1,11 +1,9 @@
 -- `chains::vertices::onward` meets its contract.
 use borrow.Author.Needs.{needs}
-use Prim.Native.Nat.{suc, _<_, _≤_}
+use Prim.Native.Nat.{suc}
 use native.Mathlib.Omega.{arith}
-use mathlib.Core.Path.{_≡_, sym, ap, _∙_}
-use lib.ListN.{length}
+use mathlib.Core.Path.{sym, _∙_}
 use Rattle.ids.proofs.ByteOrder.{clash}
-use Rattle.chains.specs.Chain.{stopOf, lineFrom}
 use Rattle.chains.proofs.Standing.{beyond, arrives, goes, never-bare, next-within, of-trip}
 use Rattle.chains.proofs.vertices.onward.Statement.{statement}
 use Rattle.chains.proofs.vertices.onward.Tie as tie

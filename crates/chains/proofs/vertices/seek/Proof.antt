@@ -1,7 +1,7 @@
 -- `chains::vertices::seek` meets its contract. The loop's invariant: it stands at vertex j.
 use Prim.Native.Nat.{suc, _+_, _-_, _≤_}
 use native.Mathlib.Omega.{arith}
-use mathlib.Core.Path.{_≡_, sym, subst, ap, _∙_}
+use mathlib.Core.Path.{_≡_}
 use Rattle.chains.specs.Chain.{stopOf}
 use Rattle.chains.specs.Vertices.{Stands}
 use Rattle.chains.proofs.Standing.{beyond}
