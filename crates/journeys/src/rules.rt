@@ -58,8 +58,28 @@ pub(crate) fn ends(j: JourneyLegs) -> [Rule; 9]
         Rule::One(1, Test::Column(Pool::Reals, endlat, n)),
         Rule::One(1, Test::Column(Pool::Reals, endlon, n)),
         Rule::One(1, Test::Column(Pool::Bytes, ended, n)),
-        Rule::One(3, Test::OffGlobe(startlat, startlon, Mark { all: false, flags: started })),
-        Rule::One(3, Test::OffGlobe(endlat, endlon, Mark { all: false, flags: ended })),
+        Rule::One(
+            3,
+            Test::OffGlobe(
+                startlat,
+                startlon,
+                Mark {
+                    all: false,
+                    flags: started,
+                },
+            ),
+        ),
+        Rule::One(
+            3,
+            Test::OffGlobe(
+                endlat,
+                endlon,
+                Mark {
+                    all: false,
+                    flags: ended,
+                },
+            ),
+        ),
         Rule::Nothing,
     ]
 }

@@ -22,7 +22,10 @@ pub(crate) fn leg_ends(count: u32, from: u32, to: u32) -> Ends
     ensures { λ r. ⌜ r ≡ endsOf count from to ⌝ }
 {
     if count == 0 {
-        return Ends { board: 0, alight: 0 };
+        return Ends {
+            board: 0,
+            alight: 0,
+        };
     }
     let last = count - 1;
     let a = at_most(from, last);

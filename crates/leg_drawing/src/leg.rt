@@ -58,7 +58,17 @@ fn along_shape(
     ensures { λ r. ⌜ now (lon .exit) ≡ lonAfter 0 (partDrawn (lineOf (now (lats .entry)) (now (lons .entry))) (positionsFrom (rowPosition (now (bytes .entry)) (now (words .entry)) (now (reals .entry)) stops calls) first count) (endsOf count from to)) (now (lat .entry)) (now (lon .entry)) ⌝ }
 {
     let leg = part(
-        bytes, words, reals, stops, calls, lats, lons, first, count, from, to,
+        bytes,
+        words,
+        reals,
+        stops,
+        calls,
+        lats,
+        lons,
+        first,
+        count,
+        from,
+        to,
     );
     let a = leg.first;
     let e = leg.last + 1;
@@ -109,7 +119,17 @@ fn from_stop_to_stop(
         return Drawing::Refused(9);
     }
     let drawn = draw_stops(
-        bytes, words, reals, stops, calls, first, count, from, to, lat, lon,
+        bytes,
+        words,
+        reals,
+        stops,
+        calls,
+        first,
+        count,
+        from,
+        to,
+        lat,
+        lon,
     );
     Drawing::Points(drawn)
 }
@@ -149,11 +169,33 @@ fn draw(
     let lons = shape_column(reals, longitudes, points);
     if vertices(lats, lons) == 0 {
         return from_stop_to_stop(
-            bytes, words, reals, stops, calls, first, count, from, to, lat, lon,
+            bytes,
+            words,
+            reals,
+            stops,
+            calls,
+            first,
+            count,
+            from,
+            to,
+            lat,
+            lon,
         );
     }
     along_shape(
-        bytes, words, reals, stops, calls, lats, lons, first, count, from, to, lat, lon,
+        bytes,
+        words,
+        reals,
+        stops,
+        calls,
+        lats,
+        lons,
+        first,
+        count,
+        from,
+        to,
+        lat,
+        lon,
     )
 }
 

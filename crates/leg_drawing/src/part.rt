@@ -93,8 +93,32 @@ pub(crate) fn part(
     };
     let skip = board + 1;
     let left = alight - board;
-    let i = run(bytes, words, reals, stops, calls, lat, lon, 0, first, 0, skip);
-    let j = run(bytes, words, reals, stops, calls, lat, lon, i, first, skip, left);
+    let i = run(
+        bytes,
+        words,
+        reals,
+        stops,
+        calls,
+        lat,
+        lon,
+        0,
+        first,
+        0,
+        skip,
+    );
+    let j = run(
+        bytes,
+        words,
+        reals,
+        stops,
+        calls,
+        lat,
+        lon,
+        i,
+        first,
+        skip,
+        left,
+    );
     if i < j {
         return Part { first: i, last: j };
     }
