@@ -1,0 +1,2 @@
+-- `Stitching`: legs and points drawn one after another.
+pub mod Stitching

@@ -1,0 +1,30 @@
+// The first refusal that applies to a journey, over all that is lent.
+use crate::legs::JourneyLegs;
+use crate::rules::ends;
+use crate::rules::legs;
+use tables::Bounds;
+use tables::least;
+ghost use mathlib.Core.Path.{_≡_};
+ghost use Rattle.tables.specs.Pools.{pools};
+ghost use Rattle.tables.specs.Refuse.{refusalOf};
+ghost use Rattle.journeys.specs.Causes.{journeyCauses};
+
+pub(crate) fn check_journey(
+    bytes: &[u8],
+    words: &[u32],
+    times: &[i64],
+    reals: &[f64],
+    dists: &[f32],
+    b: Bounds,
+    j: JourneyLegs,
+) -> u32
+    ensures { λ r. ⌜ r ≡ refusalOf (pools (now (bytes .entry)) (now (words .entry)) (now (times .entry)) (now (reals .entry)) (now (dists .entry))) (journeyCauses b j) ⌝ }
+{
+    let points = j.points;
+    let r1 = legs(b, j, points.lat.n);
+    let best1 = least(bytes, words, times, reals, dists, 0, r1);
+    let r2 = ends(j);
+    let best2 = least(bytes, words, times, reals, dists, best1, r2);
+    let r3 = shape_rules::points(points);
+    least(bytes, words, times, reals, dists, best2, r3)
+}
