@@ -94,9 +94,7 @@ fn unit_of(
     ends_unit(
         lat,
         lon,
-        ends_of(
-            bytes, words, reals, stops, calls, first, n, dist, measured,
-        ),
+        ends_of(bytes, words, reals, stops, calls, first, n, dist, measured),
     )
 }
 
@@ -175,9 +173,30 @@ pub fn backfill_rows(
         return;
     }
     let unit = unit_of(
-        bytes, words, reals, stops, calls, lat, lon, first, n, dist, measured,
+        bytes,
+        words,
+        reals,
+        stops,
+        calls,
+        lat,
+        lon,
+        first,
+        n,
+        dist,
+        measured,
     );
     fill(
-        bytes, words, reals, stops, calls, lat, lon, unit, first, n, dist, measured,
+        bytes,
+        words,
+        reals,
+        stops,
+        calls,
+        lat,
+        lon,
+        unit,
+        first,
+        n,
+        dist,
+        measured,
     );
 }

@@ -27,13 +27,7 @@ fn main() {
     replay(bytes, words, reals, dists, &text[..n]);
 }
 
-fn replay(
-    bytes: &mut [u8],
-    words: &mut [u32],
-    reals: &mut [f64],
-    dists: &mut [f32],
-    text: &[u8],
-) {
+fn replay(bytes: &mut [u8], words: &mut [u32], reals: &mut [f64], dists: &mut [f32], text: &[u8]) {
     let mut r = Script::new();
     let mut i = 0;
     while i < text.len() {

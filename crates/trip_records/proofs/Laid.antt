@@ -1,7 +1,7 @@
 -- Records laid out in columns, and what the core makes of them. Assumes nothing.
 use Prim.Native.Nat.{ℕ, zero, suc, _+_, _<_, _≤_}
 use native.Mathlib.Omega.{arith}
-use mathlib.Core.Path.{_≡_, refl, sym, ap, _∙_}
+use mathlib.Core.Path.{_≡_, refl, ap, _∙_}
 use mathlib.Core.List.{List, [], _∷_, _++_, map}
 use lib.Ieee.{Float, nan}
 use lib.ListN.{length, length-append, length-drop, length-map, take, drop, getD, List·getD-append}
@@ -9,15 +9,15 @@ use lib.Seq.{take-at, drop-at}
 use Rattle.lengths.specs.Line.{lineOf}
 use Rattle.projection.specs.declared.cursor.Position.{Position}
 use Rattle.tables.specs.Pools.{partOf}
-use Rattle.tables.specs.declared.lent.Stops.{Stops}
 use Rattle.trip_rows.specs.Rows.{stopPosition, rowPosition}
 use Rattle.trip_projection.specs.Vertices.{positionsFrom}
 use Rattle.backfill.specs.Rows.{rowsOf, distsIn, marksIn}
 use Rattle.backfill.specs.Trip.{backfillOf}
 use Rattle.backfill.specs.declared.row.Distance.{Distance}
-use Rattle.backfill.proofs.Among.{backfill-count, dists-count, marks-count}
+use Rattle.backfill.proofs.Columns.{dists-count, marks-count}
+use Rattle.backfill.proofs.Filling.{backfill-count}
 use Rattle.records.specs.Rows.{each, mapTo}
-use Rattle.records.specs.Records.{none, fillRow, filledOf, flagOf, stopCol, distCol, knownCol}
+use Rattle.records.specs.Records.{none, fillRow, flagOf}
 use Rattle.records.specs.declared.StopTime.{StopTime}
 use Rattle.trip_records.specs.Records.{lentLine, recordStops, recordRows, recordFilled, ownCalls, coreRows, coreD, coreK, laidA, colD, colK, laidD, laidK, laidR}
 use Rattle.trip_records.specs.declared.Lent.{Lent}
@@ -119,8 +119,10 @@ module _ (rs : List StopTime) (bytes : List ℕ) (reals : List Float) (l : Lent)
   records-laid = rw (dists-laid, marks-laid) (each-same rs (λ j s h. filled-same j s h)) where
     filled-same : (j : ℕ) (s : StopTime) → j < length rs → fillRow (distsIn filled ++ drop n ds) (marksIn filled ++ drop n ks) j s ≡ fillRow (distsIn filled) (marksIn filled) j s
     filled-same j s h =
-        rw (List·getD-append (distsIn filled) (drop n ds) nan j (omega (arith, dists-count filled, filled-count)),
-        List·getD-append (marksIn filled) (drop n ks) 0 j (omega (arith, marks-count filled, filled-count)))
+        rw (
+          List·getD-append (distsIn filled) (drop n ds) nan j (omega (arith, dists-count filled, filled-count)),
+          List·getD-append (marksIn filled) (drop n ks) 0 j (omega (arith, marks-count filled, filled-count)),
+        )
 
 -- the core's answer, by the columns of the line
 pub core-is : (bytes ats : List ℕ) (reals : List Float) (l : Lent) (n : ℕ) (ds : List Float) (ks : List ℕ) → {lat : List Float} → lat ≡ partOf reals (l .line .lat) → {lon : List Float} → lon ≡ partOf reals (l .line .lon) →

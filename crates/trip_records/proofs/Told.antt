@@ -1,6 +1,6 @@
 -- The operation: what the parts' answers make of it. Assumes nothing.
 use Prim.Native.Nat.{ℕ, _≤_}
-use mathlib.Core.Path.{_≡_, sym, _∙_}
+use mathlib.Core.Path.{_≡_, _∙_}
 use mathlib.Core.List.{List, []}
 use lib.Ieee.{Float}
 use lib.ListN.{length}
@@ -43,6 +43,9 @@ module _ (rs : List StopTime) (bytes words : List ℕ) (reals : List Float) (l :
   unfolding recordsAfter stopsAfter distsAfter marksAfter
   written e =
       let z = eq-eqb code 0 e in
-      let in-all = bounds e in
-      (rw z (records-laid rs bytes reals l ats ds ks (in-all .1) (in-all .2) (in-all .3)), rw z (stops-laid rs bytes reals l ats ds ks (in-all .1) (in-all .2) (in-all .3)),
-      rw z (dists-laid rs bytes reals l ats ds ks (in-all .1) (in-all .2) (in-all .3)), rw z (marks-laid rs bytes reals l ats ds ks (in-all .1) (in-all .2) (in-all .3)))
+      let in-all = bounds e in (
+        rw z (records-laid rs bytes reals l ats ds ks (in-all .1) (in-all .2) (in-all .3)),
+        rw z (stops-laid rs bytes reals l ats ds ks (in-all .1) (in-all .2) (in-all .3)),
+        rw z (dists-laid rs bytes reals l ats ds ks (in-all .1) (in-all .2) (in-all .3)),
+        rw z (marks-laid rs bytes reals l ats ds ks (in-all .1) (in-all .2) (in-all .3)),
+      )

@@ -206,14 +206,7 @@ pub extern "C" fn zebumorn_backfill_records(
         },
     );
     let lent = check_lent(bytes, words, reals, l);
-    let code = verdict(
-        c,
-        lent,
-        r.len(),
-        at.len(),
-        dists.len(),
-        known.len(),
-    );
+    let code = verdict(c, lent, r.len(), at.len(), dists.len(), known.len());
     if code != 0 {
         return code;
     }

@@ -51,7 +51,7 @@ returns : tie.Need-returns
 unfolding lentCauses
 returns c = let s = c .before .before .before .before .before .before .before .before .before .before .before .before .before .before .args in
     let e : c .least2 .result ≡ refusalOf (pools (s .bytes .now) (s .words .now) [] (s .reals .now) []) (lentCauses (c .before .before .before .before .before .before .before .before .chart .result) (s .l)) =
-      then-rules _ _ _ _ _ _ _ (c .before .before .before .before .before .before .before .stops2 .ensures) (c .before .before .before .before .least .ensures) (then-rules _ _ _ _ _ _ _ (c .before .before .before .points-within .ensures) (c .least2 .ensures) (over _ _)) in
+    then-rules _ _ _ _ _ _ _ (c .before .before .before .before .before .before .before .stops2 .ensures) (c .before .before .before .before .least .ensures) (then-rules _ _ _ _ _ _ _ (c .before .before .before .points-within .ensures) (c .least2 .ensures) (over _ _)) in
     e ∙ rw (c .before .before .before .before .before .before .before .before .chart .ensures)
 
 pub check-lent-spec : {M : Type 1} → statement M
