@@ -1,9 +1,9 @@
 -- Rows and their columns. Assumes nothing.
 use Prim.Native.Nat.{ℕ, zero, suc, _+_, _<_, _≤_, min}
 use native.Mathlib.Omega.{arith}
-use mathlib.Core.Path.{_≡_, refl, sym, ap, _∙_}
-use mathlib.Core.Bool.{Bool, true, false, _||_}
-use mathlib.Core.List.{List, [], _∷_, _++_}
+use mathlib.Core.Path.{_≡_, refl, ap}
+use mathlib.Core.Bool.{Bool, true, false}
+use mathlib.Core.List.{List, [], _∷_, _++_, map}
 use lib.ListN.{length, length-map, take, drop, getD, set}
 use lib.Seq.{drop-cons}
 use lib.Ieee.{Float}
@@ -71,3 +71,52 @@ unfolding rowsOf
 rows-least [] ms = omega arith
 rows-least (d ∷ ds) [] = omega arith
 rows-least (d ∷ ds) (m ∷ ms) = omega (arith, rows-least ds ms)
+
+-- columns of parts of rows
+module _ {A B : Type 0} (f : A → B) where
+  pub map-take : (n : ℕ) (xs : List A) → map f (take n xs) ≡ take n (map f xs)
+  map-take zero xs = refl
+  map-take (suc n) [] = refl
+  map-take (suc n) (x ∷ xs) = ap (λ (l : List B). f x ∷ l) (map-take n xs)
+
+  pub map-drop : (n : ℕ) (xs : List A) → map f (drop n xs) ≡ drop n (map f xs)
+  map-drop zero xs = refl
+  map-drop (suc n) [] = refl
+  map-drop (suc n) (x ∷ xs) = map-drop n xs
+
+  pub map-join : (xs ys : List A) → map f (xs ++ ys) ≡ map f xs ++ map f ys
+  map-join [] ys = refl
+  map-join (x ∷ xs) ys = ap (λ (l : List B). f x ∷ l) (map-join xs ys)
+
+pub rows-take : (n : ℕ) (ds : List Float) (ms : List ℕ) → rowsOf (take n ds) (take n ms) ≡ take n (rowsOf ds ms)
+unfolding rowsOf
+rows-take zero ds ms = refl
+rows-take (suc n) [] ms = refl
+rows-take (suc n) (d ∷ ds) [] = refl
+rows-take (suc n) (d ∷ ds) (m ∷ ms) = ap (λ (l : List Distance). record { dist = d; measured = m } ∷ l) (rows-take n ds ms)
+
+no-rows : (ds : List Float) → rowsOf ds [] ≡ []
+unfolding rowsOf
+no-rows [] = refl
+no-rows (d ∷ ds) = refl
+
+pub rows-drop : (n : ℕ) (ds : List Float) (ms : List ℕ) → rowsOf (drop n ds) (drop n ms) ≡ drop n (rowsOf ds ms)
+unfolding rowsOf
+rows-drop zero ds ms = refl
+rows-drop (suc n) [] ms = refl
+rows-drop (suc n) (d ∷ ds) [] = no-rows (drop n ds)
+rows-drop (suc n) (d ∷ ds) (m ∷ ms) = rows-drop n ds ms
+
+-- rows are those of their columns
+pub rows-back : (rows : List Distance) → rowsOf (distsIn rows) (marksIn rows) ≡ rows
+unfolding rowsOf distsIn marksIn
+rows-back [] = refl
+rows-back (row ∷ rows) = ap (λ (l : List Distance). row ∷ l) (rows-back rows)
+
+pub dists-count : (rows : List Distance) → length (distsIn rows) ≡ length rows
+unfolding distsIn
+dists-count rows = length-map rows distOf
+
+pub marks-count : (rows : List Distance) → length (marksIn rows) ≡ length rows
+unfolding marksIn
+marks-count rows = length-map rows markOf

@@ -1,11 +1,11 @@
 -- The rows of a trip, filled one by one. Assumes nothing.
-use Prim.Native.Nat.{ℕ, zero, suc, _+_, _-_, _<_, _≤_}
+use Prim.Native.Nat.{ℕ, suc, _+_, _-_, _<_, _≤_}
 use native.Mathlib.Omega.{arith}
-use mathlib.Core.Path.{_≡_, refl, sym, ap, subst, _∙_}
-use mathlib.Core.Bool.{Bool, true, false, _||_}
+use mathlib.Core.Path.{_≡_, refl, sym, ap, _∙_}
+use mathlib.Core.Bool.{Bool, true, false, cond, _||_}
 use mathlib.Core.List.{List, [], _∷_, _++_, append-assoc}
 use lib.Ieee.{Float}
-use lib.Dec.{eqb}
+use lib.Dec.{eqb, ltb}
 use lib.ListN.{length, length-set, take, drop, getD, set, take-append-drop}
 use lib.Seq.{take-suc-set, drop-set-lt}
 use borrow.Author.Tests.{le-ltb, lt-ltb, eqb-false}
@@ -15,7 +15,7 @@ use Rattle.floats.specs.Number.{nought}
 use Rattle.lengths.specs.Length.{lengthTo}
 use Rattle.lengths.specs.declared.line.Point.{Point}
 use Rattle.lengths.proofs.Running.{first-length}
-use Rattle.projection.specs.Projection.{atStart, passedOf, projectionFrom, projectionOf, stepOf}
+use Rattle.projection.specs.Projection.{projectionFrom, projectionOf, stepOf}
 use Rattle.projection.specs.declared.cursor.Position.{Position}
 use Rattle.projection.specs.declared.cursor.Position.the-variants.{Known, Missing}
 use Rattle.projection.proofs.Order.{first-most}
@@ -144,3 +144,17 @@ module _ (line : List Point) (stops : List Position) (ds : List Float) (ms : Lis
   pub some-missing : 2 ≤ length line → {unit : Unit} → unit ≡ unitOf line stops (rowsOf ds ms) → fillAll line unit (projectionOf line stops) (rowsOf ds ms) ≡ after
   unfolding backfillOf
   some-missing h e = rw (e, le-ltb _ _ h)
+
+-- backfill changes no count
+fill-count : (line : List Point) (unit : Unit) (fs : List Found) (rows : List Distance) → length (fillAll line unit fs rows) ≡ length rows
+unfolding fillAll
+fill-count line unit [] rows = refl
+fill-count line unit (f ∷ fs) [] = refl
+fill-count line unit (f ∷ fs) (row ∷ rows) = ap suc (fill-count line unit fs rows)
+
+pub backfill-count : (line : List Point) (stops : List Position) (rows : List Distance) → length (backfillOf line stops rows) ≡ length rows
+unfolding backfillOf
+backfill-count line stops rows = either (ltb (length line) 2) where
+  either : (few : Bool) → length (cond few rows (fillAll line (unitOf line stops rows) (projectionOf line stops) rows)) ≡ length rows
+  either true = refl
+  either false = fill-count line (unitOf line stops rows) (projectionOf line stops) rows

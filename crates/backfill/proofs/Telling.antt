@@ -1,7 +1,7 @@
 -- The unit of a trip's distances, from its first and its last sample. Assumes nothing.
-use Prim.Native.Nat.{ℕ, zero, suc, _+_, _-_, _<_, _≤_}
+use Prim.Native.Nat.{ℕ, suc, _+_, _-_, _<_, _≤_}
 use native.Mathlib.Omega.{arith}
-use mathlib.Core.Path.{_≡_, refl, sym, ap, _∙_}
+use mathlib.Core.Path.{_≡_, refl}
 use mathlib.Core.List.{List, [], _∷_, foldl, foldl-append}
 use borrow.Author.Tests.{eq-eqb, ne-eqb, le-ltb}
 use lib.Ieee.{Float}
@@ -13,9 +13,9 @@ use Rattle.calibration.specs.Samples.{noSample, samplesAffine}
 use Rattle.calibration.specs.declared.affine.Sample.{Sample}
 use Rattle.trip_projection.specs.Vertices.{positionsFrom}
 use Rattle.backfill.specs.Rows.{rowsOf}
-use Rattle.backfill.specs.Samples.{addedEnd, endsOf, endsUnit, feedUnit, nextEnds, sampleOf, samplesIn}
+use Rattle.backfill.specs.Samples.{addedEnd, endsOf, endsUnit, feedUnit, nextEnds, samplesIn}
 use Rattle.backfill.specs.declared.ends.Ends.{Ends}
-use Rattle.backfill.specs.declared.ends.Ends.the-variants.{Nothing, One, Both}
+use Rattle.backfill.specs.declared.ends.Ends.the-variants.{Nothing, Both}
 use Rattle.backfill.specs.declared.row.Distance.{Distance}
 use Rattle.backfill.proofs.Columns.{rows-from}
 

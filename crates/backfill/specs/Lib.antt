@@ -1,8 +1,6 @@
 -- What the contracts cite. `Rows`: a row, and what is written into one that has no distance. `Samples`: the rows that tell the unit.
--- `Walk`: a stop and its row. `Trip`: backfill of a trip's rows. `Tables`: of the trips of the tables. `Answers`: the published operations.
+-- `Walk`: a stop and its row. `Trip`: backfill of a trip's rows.
 pub mod Rows
 pub mod Samples
 pub mod Walk
 pub mod Trip
-pub mod Tables
-pub mod Answers

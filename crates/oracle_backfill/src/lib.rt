@@ -1,13 +1,13 @@
 // The C names under which tools/oracle calls backfill. Each says no more than the function that it calls: 0, or the refusal's number.
-use backfill::Backfilled;
-use backfill::backfill_trip;
-use backfill::backfill_trips;
 use tables::Tables;
+use trip_backfill::Backfilled;
+use trip_backfill::backfill_trip;
+use trip_backfill::backfill_trips;
 ghost use mathlib.Core.Path.{_≡_};
 ghost use Rattle.measure.specs.Answer.{numberOf};
 ghost use Rattle.tables.specs.Pools.{pools};
-ghost use Rattle.backfill.specs.Tables.{oneOf};
-ghost use Rattle.backfill.specs.Answers.{backfillAnswer, filledOf, filledDists, filledMarks};
+ghost use Rattle.trip_backfill.specs.Tables.{oneOf};
+ghost use Rattle.trip_backfill.specs.Answers.{backfillAnswer, filledOf, filledDists, filledMarks};
 
 fn number(b: Backfilled) -> u32
     ensures { λ r. ⌜ r ≡ numberOf (backfillAnswer b) ⌝ }

@@ -1,7 +1,7 @@
 -- Records laid out in columns, and what the core makes of them. Assumes nothing.
 use Prim.Native.Nat.{ℕ, zero, suc, _+_, _<_, _≤_}
 use native.Mathlib.Omega.{arith}
-use mathlib.Core.Path.{_≡_, refl, sym, ap, _∙_}
+use mathlib.Core.Path.{_≡_, refl, ap, _∙_}
 use mathlib.Core.List.{List, [], _∷_, _++_, map}
 use lib.Ieee.{Float, nan}
 use lib.ListN.{length, length-append, length-drop, length-map, take, drop, getD, List·getD-append}
@@ -9,15 +9,15 @@ use lib.Seq.{take-at, drop-at}
 use Rattle.lengths.specs.Line.{lineOf}
 use Rattle.projection.specs.declared.cursor.Position.{Position}
 use Rattle.tables.specs.Pools.{partOf}
-use Rattle.tables.specs.declared.lent.Stops.{Stops}
 use Rattle.trip_rows.specs.Rows.{stopPosition, rowPosition}
 use Rattle.trip_projection.specs.Vertices.{positionsFrom}
 use Rattle.backfill.specs.Rows.{rowsOf, distsIn, marksIn}
 use Rattle.backfill.specs.Trip.{backfillOf}
 use Rattle.backfill.specs.declared.row.Distance.{Distance}
-use Rattle.backfill.proofs.Among.{backfill-count, dists-count, marks-count}
+use Rattle.backfill.proofs.Columns.{dists-count, marks-count}
+use Rattle.backfill.proofs.Filling.{backfill-count}
 use Rattle.records.specs.Rows.{each, mapTo}
-use Rattle.records.specs.Records.{none, fillRow, filledOf, flagOf, stopCol, distCol, knownCol}
+use Rattle.records.specs.Records.{none, fillRow, flagOf}
 use Rattle.records.specs.declared.StopTime.{StopTime}
 use Rattle.trip_records.specs.Records.{lentLine, recordStops, recordRows, recordFilled, ownCalls, coreRows, coreD, coreK, laidA, colD, colK, laidD, laidK, laidR}
 use Rattle.trip_records.specs.declared.Lent.{Lent}

@@ -89,7 +89,14 @@ struct Ways {
 
 impl Ways {
     /// A trip, by its rows before it and after; `first` has the rows before all trips.
-    fn note(&mut self, w: &World, trip: &Trip, first: &[PackedStopTime], before: &[PackedStopTime], after: &[PackedStopTime]) {
+    fn note(
+        &mut self,
+        w: &World,
+        trip: &Trip,
+        first: &[PackedStopTime],
+        before: &[PackedStopTime],
+        after: &[PackedStopTime],
+    ) {
         let range = trip.1 as usize..(trip.1 + trip.2) as usize;
         if range.is_empty() {
             return;
@@ -101,17 +108,17 @@ impl Ways {
         }
         let own = &before[range.clone()];
         let missing = own.iter().filter(|r| r.shape_dist_traveled.is_none()).count();
-        let samples: Vec<(f64, (f64, f64))> = own
-            .iter()
-            .filter_map(|r| Some((r.shape_dist_traveled? as f64, w.stops[r.stop_idx as usize]?)))
-            .collect();
+        let samples: Vec<(f64, (f64, f64))> =
+            own.iter().filter_map(|r| Some((r.shape_dist_traveled? as f64, w.stops[r.stop_idx as usize]?))).collect();
         match missing {
             0 => self.full += 1,
             n if n == own.len() => self.metres += 1,
             _ if shape_dist_affine(line, &shape_cumulative_distances(line), &samples).is_some() => self.calibrated += 1,
             _ => self.unknown += 1,
         }
-        self.shared += range.clone().any(|k| first[k].shape_dist_traveled.is_none() && before[k].shape_dist_traveled.is_some()) as u64;
+        self.shared +=
+            range.clone().any(|k| first[k].shape_dist_traveled.is_none() && before[k].shape_dist_traveled.is_some())
+                as u64;
         self.unplaced += range
             .clone()
             .any(|k| before[k].shape_dist_traveled.is_none() && w.stops[before[k].stop_idx as usize].is_none())
@@ -122,25 +129,37 @@ impl Ways {
                 self.infinite += d.is_infinite() as u64;
             }
         }
-        self.negative_zero += own.iter().filter(|r| r.shape_dist_traveled.is_some_and(|d| d == 0.0 && d.is_sign_negative())).count() as u64;
+        self.negative_zero +=
+            own.iter().filter(|r| r.shape_dist_traveled.is_some_and(|d| d == 0.0 && d.is_sign_negative())).count()
+                as u64;
     }
 
     fn print(&self) {
         println!("trips: {} without a line of two points, {} with nothing missing, {} all missing, {} some missing with an answer, {} without",
             self.no_line, self.full, self.metres, self.calibrated, self.unknown);
-        println!("trips with a row that an earlier trip filled: {}; with a missing row whose stop has no position: {}", self.shared, self.unplaced);
-        println!("distances written: {} NaN, {} infinite; present: {} are -0.0", self.nan, self.infinite, self.negative_zero);
+        println!(
+            "trips with a row that an earlier trip filled: {}; with a missing row whose stop has no position: {}",
+            self.shared, self.unplaced
+        );
+        println!(
+            "distances written: {} NaN, {} infinite; present: {} are -0.0",
+            self.nan, self.infinite, self.negative_zero
+        );
     }
 }
 
 /// What differs, told by the world.
 fn told(i: u64, w: &World, got: &Filled, want: &[PackedStopTime]) -> String {
     let want: Vec<Option<f32>> = want.iter().map(|r| r.shape_dist_traveled).collect();
-    format!("world {i}: shapes {:?}, stops {:?}, rows {:?}, trips {:?}; port: {} {:?} {:?}, Rust: {want:?}", w.shapes, w.stops, w.rows, w.trips, got.refusal, got.dists, got.marks)
+    format!(
+        "world {i}: shapes {:?}, stops {:?}, rows {:?}, trips {:?}; port: {} {:?} {:?}, Rust: {want:?}",
+        w.shapes, w.stops, w.rows, w.trips, got.refusal, got.dists, got.marks
+    )
 }
 
 fn compare(d: &mut Draw, count: u64) -> u64 {
-    let (mut all, mut alone, mut refused) = (Tally::new("backfill, all trips"), Tally::new("backfill, one trip"), Tally::new("backfill, refused"));
+    let (mut all, mut alone, mut refused) =
+        (Tally::new("backfill, all trips"), Tally::new("backfill, one trip"), Tally::new("backfill, refused"));
     let mut ways = Ways::default();
     for i in 0..count {
         let world = backfills::world(d, i);
@@ -149,7 +168,9 @@ fn compare(d: &mut Draw, count: u64) -> u64 {
         let got = lent.backfill(None, room, room);
         let number = refusal(&world);
         if number != 0 {
-            refused.note(got.refusal == number && untouched(&got, 0), false, || format!("world {i}: {} for {number}", got.refusal));
+            refused.note(got.refusal == number && untouched(&got, 0), false, || {
+                format!("world {i}: {} for {number}", got.refusal)
+            });
             continue;
         }
         if !first.is_empty() {

@@ -65,16 +65,25 @@ fn records(w: &World, t: &Trip) -> Vec<StopTime> {
     (t.1..t.1 + t.2)
         .map(|k| {
             let (stop, dist) = w.rows[k as usize];
-            StopTime { stop, arrival: 3 * k, departure: 3 * k + 1, sequence: 5 * k, measured: dist.is_some(), dist: dist.unwrap_or(k as f32) }
+            StopTime {
+                stop,
+                arrival: 3 * k,
+                departure: 3 * k + 1,
+                sequence: 5 * k,
+                measured: dist.is_some(),
+                dist: dist.unwrap_or(k as f32),
+            }
         })
         .collect()
 }
 
 fn rust(w: &World, t: &Trip) -> Vec<PackedStopTime> {
     let shapes = w.shapes.iter().enumerate().map(|(k, s)| (k.to_string(), s.clone())).collect();
-    let stops: Vec<StopRecord> = w.stops.iter().map(|s| StopRecord { lat: s.map(|p| p.0), lon: s.map(|p| p.1) }).collect();
+    let stops: Vec<StopRecord> =
+        w.stops.iter().map(|s| StopRecord { lat: s.map(|p| p.0), lon: s.map(|p| p.1) }).collect();
     let trip = TripRecord { shape_id: t.0.map(|s| s.to_string()), stop_time_start: t.1, stop_time_len: t.2 };
-    let mut rows: Vec<PackedStopTime> = w.rows.iter().map(|r| PackedStopTime { stop_idx: r.0, shape_dist_traveled: r.1 }).collect();
+    let mut rows: Vec<PackedStopTime> =
+        w.rows.iter().map(|r| PackedStopTime { stop_idx: r.0, shape_dist_traveled: r.1 }).collect();
     backfill_shape_dist_traveled(&[trip], &mut rows, &stops, &shapes);
     rows[t.1 as usize..(t.1 + t.2) as usize].to_vec()
 }
@@ -99,8 +108,21 @@ fn port(w: &World, lent: &Lent, t: &Trip, stops: u32, rows: [usize; 3]) -> Done 
     }
     let refusal = unsafe {
         zebumorn_backfill_records(
-            records.as_mut_ptr(), records.len(), lent.bytes.as_ptr(), lent.bytes.len(), lent.words.as_ptr(), lent.words.len(), lent.reals.as_ptr(), lent.reals.len(),
-            beside, columns.0.as_mut_ptr(), rows[0], columns.1.as_mut_ptr(), rows[1], columns.2.as_mut_ptr(), rows[2],
+            records.as_mut_ptr(),
+            records.len(),
+            lent.bytes.as_ptr(),
+            lent.bytes.len(),
+            lent.words.as_ptr(),
+            lent.words.len(),
+            lent.reals.as_ptr(),
+            lent.reals.len(),
+            beside,
+            columns.0.as_mut_ptr(),
+            rows[0],
+            columns.1.as_mut_ptr(),
+            rows[1],
+            columns.2.as_mut_ptr(),
+            rows[2],
         )
     };
     Done { refusal, records, columns }
@@ -121,7 +143,8 @@ fn agree(got: &[StopTime], before: &[StopTime], want: &[PackedStopTime]) -> bool
 /// Whether nothing was written at all.
 fn untouched(done: &Done, before: &[StopTime]) -> bool {
     let same = |(g, b): (&StopTime, &StopTime)| {
-        (g.stop, g.arrival, g.departure, g.sequence, g.measured, g.dist.to_bits()) == (b.stop, b.arrival, b.departure, b.sequence, b.measured, b.dist.to_bits())
+        (g.stop, g.arrival, g.departure, g.sequence, g.measured, g.dist.to_bits())
+            == (b.stop, b.arrival, b.departure, b.sequence, b.measured, b.dist.to_bits())
     };
     done.records.iter().zip(before).all(same)
         && done.columns.0.iter().all(|&x| x == BEFORE.0)
@@ -143,20 +166,34 @@ fn compare(d: &mut Draw, count: u64) -> u64 {
             let room = [n + d.below(3) as usize, n + d.below(3) as usize, n];
             let done = port(&w, &lent, t, all, room);
             if number != 0 {
-                refused.note(done.refusal == number && untouched(&done, &before), false, || format!("world {i}: {} for {number}", done.refusal));
+                refused.note(done.refusal == number && untouched(&done, &before), false, || {
+                    format!("world {i}: {} for {number}", done.refusal)
+                });
                 continue;
             }
             let want = rust(&w, t);
             let nan = want.iter().any(|r| r.shape_dist_traveled.is_some_and(f32::is_nan));
-            let past = done.columns.0[n..].iter().all(|&x| x == BEFORE.0) && done.columns.1[n..].iter().all(|&x| x == BEFORE.1);
-            told.note(done.refusal == 0 && past && agree(&done.records, &before, &want), nan, || format!("world {i}, trip {t:?}: {} {:?} for {:?}", done.refusal, done.records, want.iter().map(|r| r.shape_dist_traveled).collect::<Vec<_>>()));
+            let past = done.columns.0[n..].iter().all(|&x| x == BEFORE.0)
+                && done.columns.1[n..].iter().all(|&x| x == BEFORE.1);
+            told.note(done.refusal == 0 && past && agree(&done.records, &before, &want), nan, || {
+                format!(
+                    "world {i}, trip {t:?}: {} {:?} for {:?}",
+                    done.refusal,
+                    done.records,
+                    want.iter().map(|r| r.shape_dist_traveled).collect::<Vec<_>>()
+                )
+            });
             if n > 0 {
                 let short = [[n - 1, n, n], [n, n - 1, n], [n, n, n - 1]][d.below(3) as usize];
                 let done = port(&w, &lent, t, all, short);
-                refused.note(done.refusal == 9 && untouched(&done, &before), false, || format!("world {i}: {} for 9", done.refusal));
+                refused.note(done.refusal == 9 && untouched(&done, &before), false, || {
+                    format!("world {i}: {} for 9", done.refusal)
+                });
                 let most = before.iter().map(|r| r.stop).max().unwrap_or(0);
                 let done = port(&w, &lent, t, most, room);
-                refused.note(done.refusal == 5 && untouched(&done, &before), false, || format!("world {i}: {} for 5", done.refusal));
+                refused.note(done.refusal == 5 && untouched(&done, &before), false, || {
+                    format!("world {i}: {} for 5", done.refusal)
+                });
             }
         }
     }

@@ -26,7 +26,8 @@ const HEAD: usize = 12 + 2 * 78;
 
 fn backfill(w: &World, trips: &[Trip], rows: &mut [PackedStopTime]) {
     let shapes = w.shapes.iter().enumerate().map(|(k, s)| (k.to_string(), s.clone())).collect();
-    let stops: Vec<StopRecord> = w.stops.iter().map(|s| StopRecord { lat: s.map(|p| p.0), lon: s.map(|p| p.1) }).collect();
+    let stops: Vec<StopRecord> =
+        w.stops.iter().map(|s| StopRecord { lat: s.map(|p| p.0), lon: s.map(|p| p.1) }).collect();
     let records: Vec<TripRecord> = trips
         .iter()
         .map(|t| TripRecord { shape_id: t.0.map(|s| s.to_string()), stop_time_start: t.1, stop_time_len: t.2 })
@@ -89,10 +90,18 @@ fn main() -> std::io::Result<()> {
         let number = refusal(&w);
         let (mut all, first) = (rows(&w), rows(&w));
         backfill(&w, &w.trips, &mut all);
-        let written: Vec<f32> =
-            (0..all.len()).filter(|&k| first[k].shape_dist_traveled.is_none()).filter_map(|k| all[k].shape_dist_traveled).collect();
+        let written: Vec<f32> = (0..all.len())
+            .filter(|&k| first[k].shape_dist_traveled.is_none())
+            .filter_map(|k| all[k].shape_dist_traveled)
+            .collect();
         let some = w.rows.iter().any(|r| r.1.is_some());
-        let kind = (number, written.len().min(3), some, written.iter().any(|d| d.is_nan()), written.iter().any(|d| d.is_infinite()));
+        let kind = (
+            number,
+            written.len().min(3),
+            some,
+            written.iter().any(|d| d.is_nan()),
+            written.iter().any(|d| d.is_infinite()),
+        );
         let count: &mut usize = met.entry(kind).or_default();
         if *count == KEPT {
             continue;

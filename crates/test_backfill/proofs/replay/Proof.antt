@@ -13,6 +13,9 @@ Inv-loop bytes₀ words₀ reals₀ dists₀ text r₀ i₀ bytes words reals di
 abbrev μ-loop : tie.MeasureT-loop
 μ-loop bytes₀ words₀ reals₀ dists₀ text r₀ i₀ bytes words reals dists r i = length text - i
 
+new-requires : tie.Need-new-requires Inv-loop μ-loop
+new-requires c κs = search needs
+
 loop-holds : tie.Need-loop-holds Inv-loop μ-loop
 loop-holds c = search needs
 
@@ -47,4 +50,4 @@ returns : tie.Need-returns Inv-loop μ-loop
 returns c = search needs
 
 pub replay-spec : {M : Type 1} → statement M
-replay-spec = tie.close (tie.spec Inv-loop μ-loop loop-holds shared-slice-read-step step-requires add-i loop-less loop-again same-length same-length-2 same-length-3 same-length-4 returns)
+replay-spec = tie.close (tie.spec Inv-loop μ-loop new-requires loop-holds shared-slice-read-step step-requires add-i loop-less loop-again same-length same-length-2 same-length-3 same-length-4 returns)

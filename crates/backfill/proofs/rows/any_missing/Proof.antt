@@ -1,7 +1,7 @@
 -- `backfill::rows::any_missing` meets its contract. The loop's invariant: what holds of all flags holds of those from k on.
 use Prim.Native.Nat.{_-_, _≤_}
 use native.Mathlib.Omega.{arith}
-use mathlib.Core.Path.{_≡_, refl, sym, ap, _∙_}
+use mathlib.Core.Path.{_≡_, refl, sym, _∙_}
 use borrow.Author.Tests.{eq-eqb, ne-eqb}
 use lib.ListN.{length, drop}
 use Rattle.backfill.specs.Trip.{anyOf, isMissing}

@@ -1,7 +1,7 @@
 use borrow.Author.Needs.{needs}
 use native.Mathlib.Omega.{arith}
 use mathlib.Core.Path.{_∙_, sym, ap}
-use borrow.Author.Tests.{not-true, not-false}
+use borrow.Author.Tests.{not-true}
 use Rattle.lengths.specs.Line.{lineOf}
 use Rattle.trip_rows.specs.Rows.{rowPosition}
 use Rattle.trip_projection.specs.Vertices.{positionsFrom}

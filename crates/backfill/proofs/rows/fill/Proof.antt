@@ -2,7 +2,7 @@
 use borrow.Author.Needs.{needs}
 use Prim.Native.Nat.{_-_}
 use native.Mathlib.Omega.{arith}
-use mathlib.Core.Path.{_∙_, refl, sym}
+use mathlib.Core.Path.{refl}
 use lib.Ieee.{nan, ofBits}
 use Rattle.lengths.specs.Line.{lineOf}
 use Rattle.trip_rows.specs.Rows.{rowPosition}

@@ -1,0 +1,20 @@
+use borrow.Author.Needs.{needs}
+use native.Mathlib.Omega.{arith}
+use borrow.Author.Tests.{lt-ltb, le-ltb}
+use Rattle.trip_backfill.specs.Tables.{oneOf}
+use Rattle.trip_backfill.proofs.trips.end_of.Statement.{statement}
+use Rattle.trip_backfill.proofs.trips.end_of.Tie as tie
+
+add-result : tie.Need-add-result
+add-result c = search needs
+
+returns : tie.Need-returns
+unfolding oneOf
+returns c = rw (lt-ltb _ _ (c .if1 .taken)) (omega arith)
+
+returns-2 : tie.Need-returns-2
+unfolding oneOf
+returns-2 c = rw (le-ltb _ _ (c .if1 .left)) (omega arith)
+
+pub end-of-spec : {M : Type 1} → statement M
+end-of-spec = tie.close (tie.spec add-result returns returns-2)

@@ -1,0 +1,3 @@
+-- What the contracts cite. `Tables`: backfill of the trips of the tables. `Answers`: the published operations.
+pub mod Tables
+pub mod Answers
