@@ -1,12 +1,12 @@
 use borrow.Author.Needs.{needs}
 use borrow.Author.Tests.{eq-eqb, le-ltb, lt-ltb, ne-eqb}
 use mathlib.Core.Path.{_∙_}
-use Rattle.trip_times.specs.Fits.{tripFit}
-use Rattle.trip_times.proofs.fit.fit_of.Statement.{statement}
-use Rattle.trip_times.proofs.fit.fit_of.Tie as tie
+use Rattle.trip_fits.specs.Fits.{tripFit}
+use Rattle.trip_fits.proofs.fit.fit_of.Statement.{statement}
+use Rattle.trip_fits.proofs.fit.fit_of.Tie as tie
 use Rattle.columns.proofs.bit.Reads as bit-reads
 use Rattle.ids.proofs.cell.Reads as cell-reads
-use Rattle.trip_times.proofs.fit.departing_at.Reads as departing-at-reads
+use Rattle.trip_fits.proofs.fit.departing_at.Reads as departing-at-reads
 
 bit-requires : tie.Need-bit-requires
 bit-requires c κs = search needs

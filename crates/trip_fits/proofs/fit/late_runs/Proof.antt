@@ -1,8 +1,8 @@
 use borrow.Author.Needs.{needs}
 use borrow.Author.Tests.{le-leb, lt-leb}
-use Rattle.trip_times.proofs.fit.late_runs.Statement.{statement}
-use Rattle.trip_times.proofs.fit.late_runs.Tie as tie
-use Rattle.trip_times.proofs.fit.trip_runs.Reads as trip-runs-reads
+use Rattle.trip_fits.proofs.fit.late_runs.Statement.{statement}
+use Rattle.trip_fits.proofs.fit.late_runs.Tie as tie
+use Rattle.trip_fits.proofs.fit.trip_runs.Reads as trip-runs-reads
 
 returns : tie.Need-returns
 returns c = rw (lt-leb _ _ (c .if1 .taken))

@@ -12,7 +12,7 @@ ghost use lib.Dec.{leb};
 ghost use lib.IntN.{natAbs, _-ℤ_};
 ghost use mathlib.Core.Bool.{_&&_};
 ghost use Rattle.services.specs.Runs.{Calendared};
-ghost use Rattle.trip_times.specs.Fits.{since, away, near, nearer, ifRuns, runsOn, departing, tripFit};
+ghost use Rattle.trip_fits.specs.Fits.{since, away, near, nearer, ifRuns, runsOn, departing, tripFit};
 
 // The moment asked of, in a service day: the day, as `days::ordinal_of` counts it, and the seconds from its beginning.
 pub struct Count {

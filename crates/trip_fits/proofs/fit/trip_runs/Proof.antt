@@ -1,7 +1,7 @@
 use borrow.Author.Needs.{needs}
-use Rattle.trip_times.specs.Fits.{runsOn}
-use Rattle.trip_times.proofs.fit.trip_runs.Statement.{statement}
-use Rattle.trip_times.proofs.fit.trip_runs.Tie as tie
+use Rattle.trip_fits.specs.Fits.{runsOn}
+use Rattle.trip_fits.proofs.fit.trip_runs.Statement.{statement}
+use Rattle.trip_fits.proofs.fit.trip_runs.Tie as tie
 use Rattle.ids.proofs.id.Reads as id-reads
 use Rattle.services.proofs.runs.Reads as runs-reads
 

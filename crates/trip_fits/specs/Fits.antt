@@ -7,10 +7,10 @@ use lib.IntN.{ℤ, pos, _-ℤ_, natAbs}
 use Rattle.ids.specs.Pool.{cellOf, idOf}
 use Rattle.columns.specs.Order.{bitOf}
 use Rattle.services.specs.Runs.{runsOf}
-use Rattle.trip_times.specs.declared.fit.Count.{Count}
-use Rattle.trip_times.specs.declared.fit.Fit.{Fit}
-use Rattle.trip_times.specs.declared.fit.Fit.the-variants.{Never, By}
-use Rattle.trip_times.specs.declared.fit.Plan.{Plan}
+use Rattle.trip_fits.specs.declared.fit.Count.{Count}
+use Rattle.trip_fits.specs.declared.fit.Fit.{Fit}
+use Rattle.trip_fits.specs.declared.fit.Fit.the-variants.{Never, By}
+use Rattle.trip_fits.specs.declared.fit.Plan.{Plan}
 
 -- the seconds from its count to a departure: negative where it departs before
 abbrev pub since : ℕ → ℕ → ℤ
