@@ -5,7 +5,7 @@ use tables::IdRows;
 use trip_fits::Count;
 use trip_fits::Plan;
 use trip_ids::by_id;
-use trip_ids::by_tail;
+use trip_tails::by_tail;
 use trip_times::by_token;
 ghost use mathlib.Core.Path.{_≡_};
 ghost use Rattle.trip_times.specs.Line.{Planned, ShortTokens};

@@ -13,7 +13,7 @@ use Rattle.ids.specs.declared.lookup.Found.the-variants.{At, Nothing}
 use Rattle.ids.proofs.ByteOrder.{clash}
 use Rattle.tables.specs.declared.lent.IdRows.{IdRows}
 use Rattle.ids.proofs.Search.{first-before}
-use Rattle.trip_ids.specs.Trips.{hasTail, tailRow, tailFirst}
+use Rattle.trip_tails.specs.Tails.{hasTail, tailRow, tailFirst}
 
 none-of : (a b : Bool) → (a && true) ≡ false → (a && b) ≡ false
 none-of true b e = clash (cc)

@@ -4,7 +4,7 @@ use tables::IdRows;
 ghost use Prim.Native.Nat.{ℕ, _<_};
 ghost use mathlib.Core.Path.{_≡_};
 ghost use mathlib.Core.Bool.{false};
-ghost use Rattle.trip_ids.specs.Trips.{hasTail, tailRow, tailFirst, onlyTrip, tailTrip};
+ghost use Rattle.trip_tails.specs.Tails.{hasTail, tailRow, tailFirst, onlyTrip, tailTrip};
 
 // Whether the id ends with the tail or, where that has 8 bytes or more, contains it.
 fn has_tail(id: &[u8], tail: &[u8]) -> bool

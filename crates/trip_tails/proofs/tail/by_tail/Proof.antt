@@ -1,8 +1,8 @@
 use borrow.Author.Needs.{needs}
 use borrow.Author.Tests.{eq-eqb, ne-eqb}
-use Rattle.trip_ids.specs.Trips.{tailTrip}
-use Rattle.trip_ids.proofs.tail.by_tail.Statement.{statement}
-use Rattle.trip_ids.proofs.tail.by_tail.Tie as tie
+use Rattle.trip_tails.specs.Tails.{tailTrip}
+use Rattle.trip_tails.proofs.tail.by_tail.Statement.{statement}
+use Rattle.trip_tails.proofs.tail.by_tail.Tie as tie
 
 tail-requires : tie.Need-tail-requires
 tail-requires c κs = search needs

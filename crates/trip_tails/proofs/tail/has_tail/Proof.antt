@@ -1,9 +1,9 @@
 use borrow.Author.Needs.{needs}
 use borrow.Author.Tests.{le-leb, lt-leb}
 use mathlib.Core.Path.{_∙_, sym}
-use Rattle.trip_ids.specs.Trips.{hasTail}
-use Rattle.trip_ids.proofs.tail.has_tail.Statement.{statement}
-use Rattle.trip_ids.proofs.tail.has_tail.Tie as tie
+use Rattle.trip_tails.specs.Tails.{hasTail}
+use Rattle.trip_tails.proofs.tail.has_tail.Statement.{statement}
+use Rattle.trip_tails.proofs.tail.has_tail.Tie as tie
 
 ends-with-requires : tie.Need-ends-with-requires
 ends-with-requires c κs = search needs

@@ -1,8 +1,8 @@
 use borrow.Author.Needs.{needs}
 use mathlib.Core.Path.{_∙_, sym}
-use Rattle.trip_ids.specs.Trips.{tailRow}
-use Rattle.trip_ids.proofs.tail.is_row.Statement.{statement}
-use Rattle.trip_ids.proofs.tail.is_row.Tie as tie
+use Rattle.trip_tails.specs.Tails.{tailRow}
+use Rattle.trip_tails.proofs.tail.is_row.Statement.{statement}
+use Rattle.trip_tails.proofs.tail.is_row.Tie as tie
 
 id-requires : tie.Need-id-requires
 id-requires c κs = search needs

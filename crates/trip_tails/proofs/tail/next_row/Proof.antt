@@ -6,9 +6,9 @@ use Prim.Native.Nat.{_-_, _<_, ℕ}
 use mathlib.Core.Bool.{false}
 use mathlib.Core.Path.{_∙_, _≡_, sym}
 use Rattle.ids.proofs.Search.{first-hit, first-miss}
-use Rattle.trip_ids.specs.Trips.{tailRow}
-use Rattle.trip_ids.proofs.tail.next_row.Statement.{statement}
-use Rattle.trip_ids.proofs.tail.next_row.Tie as tie
+use Rattle.trip_tails.specs.Tails.{tailRow}
+use Rattle.trip_tails.proofs.tail.next_row.Statement.{statement}
+use Rattle.trip_tails.proofs.tail.next_row.Tie as tie
 
 abbrev Inv-loop : tie.InvT-loop
 Inv-loop bytes words tripkeys tail found from n k₀ k = (j : ℕ) → j < k → tailRow bytes words tripkeys tail found j ≡ false

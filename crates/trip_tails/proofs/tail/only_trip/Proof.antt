@@ -3,10 +3,10 @@ use borrow.Author.Count.{below-none}
 use native.Mathlib.Omega.{arith}
 use mathlib.Core.Path.{_∙_, sym}
 use Rattle.ids.proofs.Search.{first-found}
-use Rattle.trip_ids.specs.Trips.{onlyTrip}
-use Rattle.trip_ids.proofs.Tails.{up-to-first}
-use Rattle.trip_ids.proofs.tail.only_trip.Statement.{statement}
-use Rattle.trip_ids.proofs.tail.only_trip.Tie as tie
+use Rattle.trip_tails.specs.Tails.{onlyTrip}
+use Rattle.trip_tails.proofs.Tails.{up-to-first}
+use Rattle.trip_tails.proofs.tail.only_trip.Statement.{statement}
+use Rattle.trip_tails.proofs.tail.only_trip.Tie as tie
 
 next-row-requires : tie.Need-next-row-requires
 next-row-requires c κs = below-none _
