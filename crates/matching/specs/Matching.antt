@@ -7,10 +7,11 @@ use Rattle.ids.specs.First.{orElse}
 use Rattle.ids.specs.declared.lookup.Found.{Found}
 use Rattle.ids.specs.declared.lookup.Found.the-variants.{Nothing}
 use Rattle.tokens.specs.Tokens.{tokenOf}
-use Rattle.trip_ids.specs.Trips.{Known, idTrip, tailTrip}
+use Rattle.trip_ids.specs.Trips.{Known, idTrip}
+use Rattle.trip_tails.specs.Tails.{tailTrip}
 use Rattle.trip_times.specs.Line.{lineTrip, Planned, ShortTokens}
-use Rattle.trip_times.specs.declared.fit.Count.{Count}
-use Rattle.trip_times.specs.declared.fit.Plan.{Plan}
+use Rattle.trip_fits.specs.declared.fit.Count.{Count}
+use Rattle.trip_fits.specs.declared.fit.Plan.{Plan}
 use Rattle.matching.specs.declared.whole.Named.{Named}
 
 module _ (bytes words : List ℕ) where

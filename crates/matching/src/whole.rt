@@ -2,10 +2,10 @@
 use ids::Found;
 use tables::Aliases;
 use tables::IdRows;
+use trip_fits::Count;
+use trip_fits::Plan;
 use trip_ids::by_id;
-use trip_ids::by_tail;
-use trip_times::Count;
-use trip_times::Plan;
+use trip_tails::by_tail;
 use trip_times::by_token;
 ghost use mathlib.Core.Path.{_≡_};
 ghost use Rattle.trip_times.specs.Line.{Planned, ShortTokens};

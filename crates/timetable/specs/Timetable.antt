@@ -14,7 +14,7 @@ use Rattle.tables.specs.declared.lent.Journey.{Journey}
 use Rattle.tables.specs.declared.lent.Service.{Service}
 use Rattle.tables.specs.declared.lent.Tables.{Tables}
 use Rattle.services.specs.Runs.{runsOf}
-use Rattle.trip_times.specs.declared.fit.Plan.{Plan}
+use Rattle.trip_fits.specs.declared.fit.Plan.{Plan}
 use Rattle.matching.specs.Matching.{matchOf}
 use Rattle.matching.specs.Moments.{todayOf, yesterdayOf}
 use Rattle.matching.specs.declared.whole.Named.{Named}

@@ -11,7 +11,7 @@ use matching::yesterday;
 use tables::Bounds;
 use tables::Journey;
 use tables::Tables;
-use trip_times::Plan;
+use trip_fits::Plan;
 ghost use mathlib.Core.Path.{_≡_};
 ghost use Rattle.tables.specs.Pools.{pools};
 ghost use Rattle.matching.specs.Matching.{Ready};

@@ -1,18 +1,16 @@
--- The trip that a ref names: as its id, by an alias, by an id made of its parts, by its tail. A trip is the number that a row of the trip ids has.
+-- The trip that a ref names: as its id, by an alias, by an id made of its parts. A trip is the number that a row of the trip ids has.
 use Prim.Native.Nat.{ℕ}
-use mathlib.Core.Bool.{Bool, true, not, _&&_, _||_, cond}
+use mathlib.Core.Bool.{cond}
 use mathlib.Core.List.{List, [], _∷_, _++_}
-use lib.Dec.{eqb, leb}
-use lib.ListN.{length}
-use Rattle.ids.specs.First.{first, orElse}
+use Rattle.ids.specs.First.{orElse}
 use Rattle.ids.specs.Pool.{cellOf, idOf}
 use Rattle.ids.specs.Rows.{rowOf, GoodIds}
-use Rattle.ids.specs.Texts.{prefixOf, suffixOf, holds, firstByte}
+use Rattle.ids.specs.Texts.{prefixOf, firstByte}
 use Rattle.ids.specs.declared.lookup.Found.{Found}
 use Rattle.ids.specs.declared.lookup.Found.the-variants.{At, Nothing}
 use Rattle.ids.specs.declared.pool.Span.{Span}
 use Rattle.parts.specs.Parts.{upTo}
-use Rattle.refs.specs.Refs.{rawOf, withoutLoc, journeyIdOf, isUuid, tailOf}
+use Rattle.refs.specs.Refs.{rawOf, withoutLoc, journeyIdOf, isUuid}
 use Rattle.refs.specs.Words.{loc, localMark}
 use Rattle.tables.specs.declared.lent.Aliases.{Aliases}
 use Rattle.tables.specs.declared.lent.IdRows.{IdRows}
@@ -39,15 +37,6 @@ keysOf base = base ∷ rawKeys (rawOf base)
 unfoldable pub feedOf : List ℕ → List ℕ
 feedOf base = upTo (firstByte base 58) base base
 
--- the id ends with the tail or, where that has 8 bytes or more, contains it
-unfoldable pub hasTail : List ℕ → List ℕ → Bool
-hasTail tail s = suffixOf tail s || (leb 8 (length tail) && holds tail s)
-
--- the trip is another than the one found, if any is
-abbrev pub isOther : Found → ℕ → Bool
-isOther (At found) trip = not (eqb trip found)
-isOther Nothing trip = true
-
 -- the trip, where nothing is found
 abbrev pub unless : Found → Found → Found
 unless (At k) trip = Nothing
@@ -72,22 +61,6 @@ module _ (bytes words : List ℕ) where
     -- the trip whose id is made of the ref's feed and its journey id, where that is a UUID
     unfoldable pub builtOf : List ℕ → Found
     builtOf base = let j = journeyIdOf base in cond (isUuid j) (tripOf (feedOf base ++ (58 ∷ tripMark ++ j))) Nothing
-
-    -- row k's id has the tail, and its trip is another than the one found, if any is
-    unfoldable pub tailRow : List ℕ → Found → ℕ → Bool
-    tailRow tail found k = hasTail tail (idOf bytes words (tripkeys .id) k) && isOther found (cellOf words (tripkeys .row) k)
-
-    -- the first such row
-    abbrev pub tailFirst : List ℕ → Found → Found
-    tailFirst tail found = first (tailRow tail found) (tripkeys .id .starts .n)
-
-    -- the trip of the first row whose id has the tail, unless such a row names another
-    unfoldable pub onlyTrip : List ℕ → Found
-    onlyTrip tail = let trip = tripAt words (tripkeys .row) (tailFirst tail Nothing) in unless (tailFirst tail trip) trip
-
-    -- the only trip whose ids have the tail of the ref, if it has one
-    unfoldable pub tailTrip : List ℕ → Found
-    tailTrip base = cond (eqb (length (tailOf base)) 0) Nothing (onlyTrip (tailOf base))
 
     module _ (aliases : Aliases) where
       -- the trip whose id the row found has

@@ -19,12 +19,12 @@ use Rattle.columns.proofs.Scan.{Missed}
 use Rattle.services.specs.Rows.{standOf, partsAt, keyOf, rowIs, isSame}
 use Rattle.services.specs.declared.rows.Rows.the-variants.{Lines}
 use Rattle.services.proofs.Halves.{earlier, none-after, is-other, parts-same}
-use Rattle.trip_times.specs.Fits.{away, near, tripFit}
+use Rattle.trip_fits.specs.Fits.{away, near, tripFit}
 use Rattle.trip_times.specs.Line.{onLine, rowFit, lineFrom, leastOf, keptOf, bestOf, beside, lineTrip, Planned, ShortTokens}
-use Rattle.trip_times.specs.declared.fit.Count.{Count}
-use Rattle.trip_times.specs.declared.fit.Fit.{Fit}
-use Rattle.trip_times.specs.declared.fit.Fit.the-variants.{Never}
-use Rattle.trip_times.specs.declared.fit.Plan.{Plan}
+use Rattle.trip_fits.specs.declared.fit.Count.{Count}
+use Rattle.trip_fits.specs.declared.fit.Fit.{Fit}
+use Rattle.trip_fits.specs.declared.fit.Fit.the-variants.{Never}
+use Rattle.trip_fits.specs.declared.fit.Plan.{Plan}
 use Rattle.trip_times.specs.declared.line.Best.{Best}
 
 module _ (fits : ℕ → Fit) where

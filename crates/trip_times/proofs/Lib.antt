@@ -1,3 +1,2 @@
--- `Since`: signed seconds are small. `Best`: the row that fits best, and the rows of a line.
-pub mod Since
+-- `Best`: the row that fits best, and the rows of a line.
 pub mod Best

@@ -11,11 +11,11 @@ use Rattle.columns.specs.Rows.{some}
 use Rattle.services.specs.Rows.{standOf, rowIs, placeOf, InOrder}
 use Rattle.services.specs.declared.rows.Rows.the-variants.{Lines}
 use Rattle.services.specs.Runs.{Calendared}
-use Rattle.trip_times.specs.Fits.{away, near, tripFit}
-use Rattle.trip_times.specs.declared.fit.Count.{Count}
-use Rattle.trip_times.specs.declared.fit.Fit.{Fit}
-use Rattle.trip_times.specs.declared.fit.Fit.the-variants.{Never}
-use Rattle.trip_times.specs.declared.fit.Plan.{Plan}
+use Rattle.trip_fits.specs.Fits.{away, near, tripFit}
+use Rattle.trip_fits.specs.declared.fit.Count.{Count}
+use Rattle.trip_fits.specs.declared.fit.Fit.{Fit}
+use Rattle.trip_fits.specs.declared.fit.Fit.the-variants.{Never}
+use Rattle.trip_fits.specs.declared.fit.Plan.{Plan}
 use Rattle.trip_times.specs.declared.line.Best.{Best}
 
 -- row k of the line entries has the token

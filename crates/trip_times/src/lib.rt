@@ -1,14 +1,7 @@
-// A static trip by its line and its first departure: `resolve_by_route_and_time` of the Rust's gtfs/siri_trip_map.rs.
-//
-// A departure of the schedule counts its seconds from the beginning of a service day. It is compared with two counts, those of the
-// moment asked of from the beginning of its own day and of the day before; how these are reckoned from a moment is not settled here.
-mod fit; // how well a trip's first departure fits
+// A static trip by its line and its first departure: `resolve_by_route_and_time` of the Rust's gtfs/siri_trip_map.rs, over how well each trip of
+// the line fits.
 mod line; // the trip of a line that fits best
 mod upper; // the same by a token in any case
 
-pub use fit::Count;
-pub use fit::Fit;
-pub use fit::Plan;
-pub use fit::fit_of;
 pub use line::by_line;
 pub use upper::by_token;

@@ -1,22 +1,22 @@
 // The trip of a line that fits the moment asked of best. A line's rows stand together among the line entries: the first is found by
 // halves, and then they are read one by one.
-use crate::fit::Count;
-use crate::fit::Fit;
-use crate::fit::Plan;
-use crate::fit::are_near;
-use crate::fit::away_of;
-use crate::fit::fit_of;
 use ids::Found;
 use ids::Order;
 use services::Rows;
 use services::seek;
 use services::stands;
+use trip_fits::Count;
+use trip_fits::Fit;
+use trip_fits::Plan;
+use trip_fits::are_near;
+use trip_fits::away_of;
+use trip_fits::fit_of;
 ghost use mathlib.Core.Path.{_≡_};
 ghost use Rattle.ids.specs.Pool.{cellOf};
 ghost use Rattle.columns.specs.Rows.{some};
 ghost use mathlib.Core.Bool.{not, _&&_};
 ghost use lib.Dec.{eqb};
-ghost use Rattle.trip_times.specs.Fits.{near, tripFit};
+ghost use Rattle.trip_fits.specs.Fits.{near, tripFit};
 ghost use Rattle.trip_times.specs.Line.{onLine, rowFit, lineFrom, keptOf, bestOf, beside, isCrowded, lineTrip, Planned};
 
 // Whether row k of the line entries has the token.

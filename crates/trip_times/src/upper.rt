@@ -1,8 +1,8 @@
 // A line's token is looked up in upper case.
-use crate::fit::Count;
-use crate::fit::Plan;
 use crate::line::by_line;
 use ids::Found;
+use trip_fits::Count;
+use trip_fits::Plan;
 ghost use mathlib.Core.Path.{_≡_};
 ghost use mathlib.Core.List.{map};
 ghost use Rattle.ids.specs.Bytes.{upperOf};

@@ -9,7 +9,7 @@ use Rattle.services.proofs.Halves.{place-le}
 use Rattle.services.specs.Rows.{keyOf, partsAt, standOf}
 use Rattle.services.specs.declared.rows.Rows.the-variants.{Lines}
 use mathlib.Core.List.{[]}
-use Rattle.trip_times.specs.declared.fit.Fit.{Fit}
+use Rattle.trip_fits.specs.declared.fit.Fit.{Fit}
 use Rattle.trip_times.specs.Line.{bestOf, rowFit}
 use Rattle.trip_times.proofs.Best.{after-line, before-line, next, none-more, none-yet, on-line-fit, stateOf}
 use Rattle.trip_times.proofs.line.best_of.Statement.{statement}

@@ -3,7 +3,7 @@ use borrow.Author.Tests.{le-ltb, lt-ltb}
 use Rattle.trip_times.specs.Line.{isCrowded}
 use Rattle.trip_times.proofs.line.crowded.Statement.{statement}
 use Rattle.trip_times.proofs.line.crowded.Tie as tie
-use Rattle.trip_times.proofs.fit.away_of.Reads as away-of-reads
+use Rattle.trip_fits.proofs.away_of.Reads as away-of-reads
 use Rattle.trip_times.proofs.line.has_beside.Reads as has-beside-reads
 
 away-of-requires : tie.Need-away-of-requires

@@ -2,7 +2,7 @@ use borrow.Author.Needs.{needs}
 use Rattle.trip_times.proofs.line.fit_at.Statement.{statement}
 use Rattle.trip_times.proofs.line.fit_at.Tie as tie
 use Rattle.ids.proofs.cell.Reads as cell-reads
-use Rattle.trip_times.proofs.fit.fit_of.Reads as fit-of-reads
+use Rattle.trip_fits.proofs.fit_of.Reads as fit-of-reads
 
 cell-requires : tie.Need-cell-requires
 cell-requires c κs = search needs

@@ -2,7 +2,7 @@ use borrow.Author.Needs.{needs}
 use borrow.Author.Tests.{eq-eqb, ne-eqb}
 use Rattle.trip_times.proofs.line.is_beside.Statement.{statement}
 use Rattle.trip_times.proofs.line.is_beside.Tie as tie
-use Rattle.trip_times.proofs.fit.are_near.Reads as are-near-reads
+use Rattle.trip_fits.proofs.are_near.Reads as are-near-reads
 
 returns : tie.Need-returns
 returns c = rw (eq-eqb _ _ (c .if1 .taken))

@@ -1,0 +1,2 @@
+-- `Since`: signed seconds are small.
+pub mod Since

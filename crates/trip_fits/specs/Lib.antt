@@ -1,0 +1,2 @@
+-- `Fits`: how well a trip's first departure fits.
+pub mod Fits

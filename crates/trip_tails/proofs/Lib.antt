@@ -1,0 +1,2 @@
+-- `Tails`: rows whose ids have a tail.
+pub mod Tails

@@ -1,0 +1,2 @@
+-- `Tails`: the trip that a ref names by its tail.
+pub mod Tails
