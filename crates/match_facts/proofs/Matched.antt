@@ -19,13 +19,14 @@ use Rattle.refs.specs.Refs.{journeyIdOf, isUuid, tailOf}
 use Rattle.tokens.specs.Tokens.{tokenOf}
 use Rattle.tables.specs.declared.lent.Aliases.{Aliases}
 use Rattle.tables.specs.declared.lent.IdRows.{IdRows}
-use Rattle.trip_ids.specs.Trips.{keysOf, unless, tripAt, tripOf, builtOf, tailRow, tailFirst, onlyTrip, tailTrip, namedAt, aliasTrip, firstTrip, idTrip}
-use Rattle.trip_times.specs.Fits.{away}
+use Rattle.trip_ids.specs.Trips.{keysOf, unless, tripAt, tripOf, builtOf, namedAt, aliasTrip, firstTrip, idTrip}
+use Rattle.trip_tails.specs.Tails.{tailRow, tailFirst, onlyTrip, tailTrip}
+use Rattle.trip_fits.specs.Fits.{away}
 use Rattle.trip_times.specs.Line.{rowFit, leastOf, bestOf, isCrowded, alone, lineTrip}
 use Rattle.trip_times.specs.Line.{tripAt as lineAt}
-use Rattle.trip_times.specs.declared.fit.Count.{Count}
-use Rattle.trip_times.specs.declared.fit.Fit.{Fit}
-use Rattle.trip_times.specs.declared.fit.Plan.{Plan}
+use Rattle.trip_fits.specs.declared.fit.Count.{Count}
+use Rattle.trip_fits.specs.declared.fit.Fit.{Fit}
+use Rattle.trip_fits.specs.declared.fit.Plan.{Plan}
 use Rattle.matching.specs.Matching.{tokenTrip, timedTrip, matchOf}
 use Rattle.matching.specs.declared.whole.Named.{Named}
 

@@ -11,7 +11,7 @@ use matching::resolve;
 use matching::today;
 use matching::yesterday;
 use tables::Tables;
-use trip_times::Plan;
+use trip_fits::Plan;
 ghost use mathlib.Core.Path.{_≡_};
 ghost use Rattle.matching.specs.Matching.{Ready};
 ghost use Rattle.matching.specs.Moments.{InReach};
