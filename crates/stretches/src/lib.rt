@@ -15,6 +15,7 @@ pub use drawing::Drawn;
 pub use drawing::Interpolated;
 pub use drawing::draw;
 pub use part::Part;
+pub use part::less;
 pub use part::part_length;
 pub use part::point;
 pub use part::whole;

@@ -8,4 +8,5 @@ pub use fraction::approach_fraction;
 pub use fraction::incoming;
 pub use fraction::leg_fraction;
 pub use turn::Turn;
+pub use turn::moment;
 pub use turn::turn_of;

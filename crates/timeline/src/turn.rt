@@ -19,7 +19,7 @@ pub enum Turn {
 }
 
 // Moment k of a column, or 0 past its end.
-fn moment(column: &[u64], k: usize) -> u64
+pub fn moment(column: &[u64], k: usize) -> u64
     ensures { λ r. ⌜ r ≡ timeAt (now (column .entry)) k ⌝ }
 {
     if column.len() <= k {

@@ -85,7 +85,7 @@ module _ (v : Voyage) (agreed : AgreedLegs v) where
     turned clock After s = at-call (length (v .arrs) - 1) _
 
   -- ---- without one
-  at-pin : eqb (length (v .arrs)) 0 ≡ true → (pin : Pin) → v .pin ≡ pin → Agrees v (atPin v pin)
+  at-pin : eqb (length (v .arrs)) 0 ≡ true → (pin : Pin) → v .pin ≡ pin → Agrees v (atPin pin)
   unfolding atStop
   at-pin e unplaced p = tt
   at-pin e (pinned stop sequence at) p = rw (e, p) refl
@@ -95,7 +95,7 @@ module _ (v : Voyage) (agreed : AgreedLegs v) where
   unfolding outcomeAt
   voyage-agrees clock = go (v .cancelled) (eqb (length (v .arrs)) 0) refl
     where
-      go : (x y : Bool) → eqb (length (v .arrs)) 0 ≡ y → Agrees v (cond x Silence (cond y (atPin v (v .pin)) (atTurn v clock (turnOf clock (v .arrs) (v .deps)))))
+      go : (x y : Bool) → eqb (length (v .arrs)) 0 ≡ y → Agrees v (cond x Silence (cond y (atPin (v .pin)) (atTurn v clock (turnOf clock (v .arrs) (v .deps)))))
       go true y e = tt
       go false true e = at-pin e (v .pin) refl
       go false false e = turned e clock (turnOf clock (v .arrs) (v .deps)) (turn-says clock (v .arrs) (v .deps))

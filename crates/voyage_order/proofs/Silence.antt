@@ -47,7 +47,7 @@ module _ (v : Voyage) where
   turn-speaks clock Towards = towards-speaks clock
   turn-speaks clock After = tt
 
-  pin-speaks : (stop sequence : ℕ) (at : Point) → Speaks (atPin v (pinned stop sequence at))
+  pin-speaks : (stop sequence : ℕ) (at : Point) → Speaks (atPin (pinned stop sequence at))
   unfolding atStop
   pin-speaks stop sequence at = tt
 
@@ -58,7 +58,7 @@ module _ (v : Voyage) where
   unfolding outcomeAt
   silent-where clock s = ⊎-elim (λ e. rw e refl) (λ e. none-placed (v .cancelled) (e .0) (e .1)) s
     where
-      none-placed : (x : Bool) → v .arrs ≡ [] → v .pin ≡ unplaced → cond x Silence (cond (eqb (length (v .arrs)) 0) (atPin v (v .pin)) (atTurn v clock (turnOf clock (v .arrs) (v .deps)))) ≡ Silence
+      none-placed : (x : Bool) → v .arrs ≡ [] → v .pin ≡ unplaced → cond x Silence (cond (eqb (length (v .arrs)) 0) (atPin (v .pin)) (atTurn v clock (turnOf clock (v .arrs) (v .deps)))) ≡ Silence
       none-placed true e p = refl
       none-placed false e p = rw (e, p) refl
 
@@ -67,8 +67,8 @@ module _ (v : Voyage) where
   silent-only clock = go (v .cancelled) refl (v .arrs) refl (v .pin) refl
     where
       go : (x : Bool) → v .cancelled ≡ x → (arrs : List ℕ) → v .arrs ≡ arrs → (pin : Pin) → v .pin ≡ pin →
-          cond x Silence (cond (eqb (length arrs) 0) (atPin v pin) (atTurn v clock (turnOf clock (v .arrs) (v .deps)))) ≡ Silence → Silent v
+          cond x Silence (cond (eqb (length arrs) 0) (atPin pin) (atTurn v clock (turnOf clock (v .arrs) (v .deps)))) ≡ Silence → Silent v
       go true c arrs a pin p e = inl c
       go false c [] a unplaced p e = inr (a, p)
-      go false c [] a (pinned stop sequence at) p e = absurd (speaks-not (atPin v (pinned stop sequence at)) (pin-speaks stop sequence at) e)
+      go false c [] a (pinned stop sequence at) p e = absurd (speaks-not (atPin (pinned stop sequence at)) (pin-speaks stop sequence at) e)
       go false c (x ∷ arrs) a pin p e = absurd (speaks-not (atTurn v clock (turnOf clock (v .arrs) (v .deps))) (turn-speaks clock (turnOf clock (v .arrs) (v .deps))) (rw (ne-eqb (suc (length arrs)) 0 (omega arith)) at e))

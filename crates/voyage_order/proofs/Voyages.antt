@@ -172,7 +172,7 @@ module _ (v : Voyage) (steady : Steady v) (some : 1 ≤ length (v .arrs)) (first
   called = turns (clockTurn c arrs deps) (clockTurn c′ arrs deps) (turn-says-timely arrs deps timely c) (turn-says-timely arrs deps timely c′)
 
 -- where she is pinned, or silent, she stays
-pinned-stays : (v : Voyage) (pin : Pin) → NotAstern (atPin v pin) (atPin v pin)
+pinned-stays : (v : Voyage) (pin : Pin) → NotAstern (atPin pin) (atPin pin)
 unfolding atStop
 pinned-stays v unplaced = tt
 pinned-stays v (pinned stop sequence at) = inr (refl, tt)
@@ -187,8 +187,8 @@ voyage-not-astern v steady first-bound c c′ h bound = go (v .cancelled) (eqb (
     some (suc n) e = omega arith
 
     go : (x y : Bool) → (y ≡ false → 1 ≤ length (v .arrs)) →
-        NotAstern (cond x Silence (cond y (atPin v (v .pin)) (atTurn v c (clockTurn c (v .arrs) (v .deps)))))
-        (cond x Silence (cond y (atPin v (v .pin)) (atTurn v c′ (clockTurn c′ (v .arrs) (v .deps)))))
+        NotAstern (cond x Silence (cond y (atPin (v .pin)) (atTurn v c (clockTurn c (v .arrs) (v .deps)))))
+        (cond x Silence (cond y (atPin (v .pin)) (atTurn v c′ (clockTurn c′ (v .arrs) (v .deps)))))
     go true y f = tt
     go false true f = pinned-stays v (v .pin)
     go false false f = called v steady (f refl) first-bound c c′ h bound

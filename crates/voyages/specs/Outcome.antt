@@ -21,6 +21,15 @@ use Rattle.voyages.specs.declared.record.Outcome.the-variants.{Silence}
 abbrev pub walkLeg : ℕ → Leg → Float → Walked
 walkLeg k leg frac = walkOf k (leg .shape) (leg .chain) (leg .from) (leg .to) (leg .path) frac
 
+-- the status of an approach: nearly over, whatever the path, else the path's
+abbrev pub approachStatus : Float → Walked → Status
+approachStatus frac walked = cond (isIncoming frac) IncomingAt (walked .status)
+
+-- without a call: at the best stop, as if it were call 1
+abbrev pub atPin : Pin → Outcome
+atPin unplaced = Silence
+atPin (pinned stop sequence at) = atStop 1 at InTransitTo stop sequence
+
 module _ (v : Voyage) where
   -- at call k
   abbrev pub atCall : ℕ → Status → Outcome
@@ -31,10 +40,6 @@ module _ (v : Voyage) where
   underWayAt clock k =
       let walked = walkLeg (suc (suc k)) (v .leg k) (legFraction clock (timeAt (v .deps) k) (timeAt (v .arrs) (k + 1))) in
       onLeg walked (walked .status) (v .stop (k + 1)) (v .sequence (k + 1))
-
-  -- the status of an approach: nearly over, whatever the path, else the path's
-  abbrev pub approachStatus : Float → Walked → Status
-  approachStatus frac walked = cond (isIncoming frac) IncomingAt (walked .status)
 
   -- towards the first call: on the leg to it, or at it where no stop is before it
   abbrev pub approaching : ℕ → Approach → Outcome
@@ -53,11 +58,6 @@ module _ (v : Voyage) where
   atTurn clock (Between k) = underWayAt clock k
   atTurn clock Towards = towardsAt clock
   atTurn clock After = atCall (length (v .arrs) - 1) StoppedAt
-
-  -- without a call: at the best stop, as if it were call 1
-  abbrev pub atPin : Pin → Outcome
-  atPin unplaced = Silence
-  atPin (pinned stop sequence at) = atStop 1 at InTransitTo stop sequence
 
   -- Silence falls exactly where the sailing is cancelled, or has no call and its best stop cannot be placed, which is so too where it has no updates.
   unfoldable pub outcomeAt : ℕ → Outcome

@@ -1,0 +1,93 @@
+// The estimate of tables that are not refused.
+use crate::pin::pin;
+use crate::pin::reported;
+use crate::turn::at_turn;
+use calls::collect;
+use calls::fill_arrivals;
+use calls::fill_departures;
+use sailings::clock;
+use sailings::is_cancelled;
+use tables::Tables;
+use voyages::Outcome;
+ghost use mathlib.Core.Path.{_≡_};
+ghost use Prim.Native.Nat.{_≤_};
+ghost use lib.ListN.{length};
+ghost use Rattle.tables.specs.Pools.{pools};
+ghost use Rattle.tables.specs.Refuse.{chartBounds, refusalOf};
+ghost use Rattle.checks.specs.Operations.{estimateCauses};
+ghost use Rattle.calls.specs.Calls.{reportedOf, callRows, callStops};
+ghost use Rattle.sailings.specs.Sailing.{clockOf};
+ghost use Rattle.voyages.specs.Outcome.{outcomeAt};
+ghost use Rattle.estimate.specs.Plan.{voyageOf, calledOf};
+
+// With these calls, one or more.
+fn called(
+    bytes: &[u8],
+    words: &[u32],
+    times: &[i64],
+    reals: &[f64],
+    dists: &[f32],
+    t: Tables,
+    rows: &[u32],
+    stops: &[u32],
+) -> Outcome
+    requires { ⌜ refusalOf (pools (now bytes) (now words) (now times) (now reals) (now dists)) (estimateCauses chartBounds t) ≡ 0 ⌝ }
+    requires { ⌜ now rows ≡ callRows (now bytes) (now words) (reportedOf t) ⌝ }
+    requires { ⌜ now stops ≡ callStops (now bytes) (now words) (reportedOf t) ⌝ }
+    ensures { λ r. ⌜ r ≡ calledOf (pools (now (bytes .entry)) (now (words .entry)) (now (times .entry)) (now (reals .entry)) (now (dists .entry))) t ⌝ }
+{
+    let n = rows.len();
+    let s = t.sailing;
+    let updates = t.updates;
+    let mut arrivals = [0u64; 256];
+    let mut departures = [0u64; 256];
+    fill_arrivals(bytes, times, updates, rows, &mut arrivals);
+    fill_departures(bytes, times, updates, rows, &mut departures);
+    at_turn(
+        bytes,
+        words,
+        times,
+        reals,
+        dists,
+        t,
+        rows,
+        stops,
+        &arrivals[..n],
+        &departures[..n],
+        clock(times, s),
+    )
+}
+
+// Where the ferry is, how that was found and the place that it is drawn from; or silence.
+pub fn outcome(
+    bytes: &[u8],
+    words: &[u32],
+    times: &[i64],
+    reals: &[f64],
+    dists: &[f32],
+    t: Tables,
+) -> Outcome
+    requires { ⌜ refusalOf (pools (now bytes) (now words) (now times) (now reals) (now dists)) (estimateCauses chartBounds t) ≡ 0 ⌝ }
+    ensures { λ r. ⌜ r ≡ outcomeAt (voyageOf (pools (now (bytes .entry)) (now (words .entry)) (now (times .entry)) (now (reals .entry)) (now (dists .entry))) t) (clockOf (now (times .entry)) (t .sailing)) ⌝ }
+{
+    let s = t.sailing;
+    if is_cancelled(bytes, s) {
+        return Outcome::Silence;
+    }
+    let mut rows = [0u32; 256];
+    let mut stops = [0u32; 256];
+    let n = collect(bytes, words, reported(t), &mut rows, &mut stops);
+    if n == 0 {
+        return pin(bytes, words, reals, t);
+    }
+    called(
+        bytes,
+        words,
+        times,
+        reals,
+        dists,
+        t,
+        &rows[..n],
+        &stops[..n],
+    )
+}
