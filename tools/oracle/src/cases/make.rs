@@ -1,0 +1,269 @@
+//! Cases from a seed: every way of finding a trip, a stop and a path, with clocks at each time and a second to either side.
+use super::{Call, Case, Range, Stop, Trip, Update};
+use crate::draw::Draw;
+
+/// A text of bytes that an id may have, by which a stop of this number may be known.
+const STOP_IDS: [&str; 8] =
+    ["f:a", "f:", "f:IDFM:", "f:IDFM:monomodalStopPlace:", "IDFM:", "StopPoint:", "idfm:IDFM:", "f:IDFM:StopPoint:"];
+const NAMES: [&str; 6] = ["f:a", "STIF:StopPoint:Q:", "a", "", "x:", "f:IDFM:"];
+
+fn stop_id(draw: &mut Draw, k: u64) -> String {
+    format!("{}{}", draw.one_of(&STOP_IDS), 1000 + k)
+}
+
+/// How an update names the stop of this number.
+fn name(draw: &mut Draw, own: &str, k: u64) -> Option<String> {
+    match draw.below(16) {
+        0 | 1 => None,
+        2..=11 => Some(own.into()),
+        12 => Some(format!("{}{}:", draw.one_of(&NAMES), 1000 + k)),
+        13 => Some(format!("nowhere{}", draw.below(3))),
+        _ => Some(format!("{}{}", draw.one_of(&NAMES), 1000 + k)),
+    }
+}
+
+/// Positions of ports, one after another, each a step on.
+fn ports(draw: &mut Draw, n: u64) -> Vec<(f64, f64)> {
+    let starts = [(48.8, 2.3), (0.0, 0.0), (-0.0, -0.0), (59.9, 10.7), (0.0, 179.9), (-33.8, 151.2), (82.25, 0.0)];
+    let (mut lat, mut lon): (f64, f64) = draw.one_of(&starts);
+    let step = draw.one_of(&[1e-9, 9e-10, 1.1e-9, 1e-6, 1e-5, 0.001, 0.001, 0.01, 0.01, 0.1, 0.5]);
+    let turn = draw.below(4) == 0;
+    (0..n)
+        .map(|k| {
+            let at = (lat, lon);
+            let back = if turn && k > n / 2 { -1.0 } else { 1.0 };
+            if draw.below(8) != 0 {
+                lat = (lat + back * step * draw.one_of(&[0.0, 0.5, 1.0])).clamp(-90.0, 90.0);
+                lon = (lon + back * step * draw.one_of(&[0.0, 1.0, 1.0, -1.0])).clamp(-180.0, 180.0);
+            }
+            at
+        })
+        .collect()
+}
+
+/// A shape about the ports: with points between, turned round, out and back, or short.
+fn shape(draw: &mut Draw, ports: &[(f64, f64)]) -> Vec<(f64, f64)> {
+    let mut line = vec![];
+    for pair in ports.windows(2) {
+        let n = draw.below(4);
+        for j in 0..=n {
+            let t = j as f64 / (n + 1) as f64;
+            let off = draw.one_of(&[0.0, 0.0, 0.0, 1e-5, 0.002]);
+            let at = |a: f64, b: f64| a + (b - a) * t + off;
+            line.push((at(pair[0].0, pair[1].0).clamp(-90.0, 90.0), at(pair[0].1, pair[1].1).clamp(-180.0, 180.0)));
+        }
+    }
+    line.extend(ports.last());
+    match draw.below(12) {
+        0 => line.reverse(),
+        1 => line.truncate(draw.below(3) as usize),
+        2 => {
+            let back: Vec<_> = line.iter().rev().copied().collect();
+            line.extend(back);
+        }
+        3 => line.insert(0, (-82.25, 180.0)),
+        4 => line.insert(line.len() / 2, line[line.len() / 2]),
+        _ => {}
+    }
+    line
+}
+
+/// Distances of a trip's calls in metres, in another unit, some missing, or none.
+fn distances(draw: &mut Draw, ports: &[(f64, f64)]) -> Vec<Option<f32>> {
+    let way = |k: usize| -> f64 {
+        let mut sum = 0.0;
+        for pair in ports[..=k].windows(2) {
+            sum += crate::link::geo::haversine_m(pair[0].0, pair[0].1, pair[1].0, pair[1].1);
+        }
+        sum
+    };
+    let unit = draw.one_of(&[1.0, 1.0, 0.001, 3.28, 0.0006, 7.0, -1.0]);
+    let from = draw.one_of(&[0.0, 0.0, 0.0, 100.0, -50.0]);
+    let kind = draw.below(5);
+    (0..ports.len())
+        .map(|k| match kind {
+            0 => None,
+            1 if draw.below(3) == 0 => None,
+            2 if draw.below(6) == 0 => Some(draw.between(-1000.0, 100000.0) as f32),
+            _ => Some(((way(k) + from) * unit) as f32),
+        })
+        .map(|d| d.filter(|d| d.is_finite()))
+        .collect()
+}
+
+/// The sequences of n rows.
+fn sequences(draw: &mut Draw, n: u64) -> Vec<u32> {
+    let (from, step) = draw.one_of(&[(1, 1), (0, 1), (10, 10), (1, 0), (5, 2)]);
+    let mut all: Vec<u32> = (0..n as u32).map(|k| from + k * step).collect();
+    match draw.below(10) {
+        0 => all.reverse(),
+        1 => all[draw.below(n) as usize] = draw.below(12) as u32,
+        _ => {}
+    }
+    all
+}
+
+struct Ports {
+    at: Vec<(f64, f64)>,
+    /// the row of each in the stops
+    stop: Vec<u32>,
+    /// its number
+    number: Vec<u64>,
+}
+
+/// The stops of the ports, in the order of their ids; some without a position.
+fn stops(draw: &mut Draw, case: &mut Case, n: u64) -> Ports {
+    let at = ports(draw, n);
+    let mut rows: Vec<(Stop, u64)> = vec![];
+    for k in 0..n {
+        let id = stop_id(draw, k);
+        let raw = match draw.below(4) {
+            0 => String::new(),
+            1 => format!("{}", draw.one_of(&[1u64, 10, 100, 1000, 1001])),
+            _ => id.clone(),
+        };
+        let lacks = draw.below(10) == 0;
+        rows.push((Stop { id, raw, at: Some(at[k as usize]).filter(|_| !lacks) }, k));
+    }
+    rows.sort_by(|a, b| a.0.id.cmp(&b.0.id));
+    let mut stop = vec![0; n as usize];
+    for (row, (_, k)) in rows.iter().enumerate() {
+        stop[*k as usize] = row as u32;
+    }
+    case.stops = rows.into_iter().map(|(stop, _)| stop).collect();
+    for _ in 0..draw.below(3) {
+        let k = draw.below(n);
+        let id = if draw.coin() { stop_id(draw, k) } else { format!("f:a{}", 1000 + k) };
+        let known = |id: &String| case.stops.iter().any(|s| s.id == *id) || case.stop_keys.iter().any(|s| s.0 == *id);
+        if !known(&id) {
+            case.stop_keys.push((id, stop[k as usize]));
+        }
+    }
+    Ports { at, stop, number: (0..n).collect() }
+}
+
+fn trip(draw: &mut Draw, case: &mut Case, ports: &Ports, id: String) -> Trip {
+    let n = ports.at.len() as u64;
+    let sequences = sequences(draw, n);
+    let dists = distances(draw, &ports.at);
+    let mut second = draw.one_of(&[0, 36000, 43000, 86000]);
+    let calls = (0..n as usize).map(|k| {
+        let arrival = second;
+        let departure = arrival + draw.one_of(&[0, 0, 20, 60]);
+        second = departure + draw.one_of(&[0, 10, 40, 120, 600]);
+        let stop = if draw.below(12) == 0 { draw.below(n) as u32 } else { ports.stop[k] };
+        Call { sequence: sequences[k], stop, arrival, departure, dist: dists[k] }
+    });
+    let calls = calls.collect();
+    let shape = (draw.below(5) != 0).then(|| {
+        case.shapes.push(shape(draw, &ports.at));
+        case.shapes.len() as u32 - 1
+    });
+    let service = draw.one_of(&["daily", "never"]).into();
+    Trip { id, feed: "f".into(), service, shape, frequency: draw.below(12) == 0, calls }
+}
+
+const KEYS: [(&str, &str); 10] = [
+    ("t1", "t1"),
+    ("t1", "t1"),
+    ("t1", "t1"),
+    ("t1@a@b", "t1@a"),
+    ("t1@20240101", "t1"),
+    ("idfm:A:VehicleJourney::77:LOC", "t1"),
+    ("x:ServiceJourney:abcdefgh:LOC", "z:abcdefgh"),
+    ("R:ServiceJourney:k.C01234", "t2"),
+    ("@x", "t1"),
+    ("unknown", "t1"),
+];
+
+/// What the sailing is called, and the ids, aliases and lines by which its trip is found.
+fn sailing(draw: &mut Draw, case: &mut Case, ports: &Ports) {
+    let (key, id) = draw.one_of(&KEYS);
+    case.trip = key.into();
+    if draw.below(6) != 0 {
+        let first = trip(draw, case, ports, id.into());
+        case.trips.push(first);
+        if draw.below(4) == 0 {
+            let second = trip(draw, case, ports, format!("{id}b"));
+            case.trips.push(second);
+        }
+        if draw.coin() {
+            case.aliases.push(("77".into(), id.into()));
+        }
+        if draw.below(3) == 0 {
+            case.lines.push(("C01234".into(), 0));
+            case.route = Some("IDFM:C01234".into()).filter(|_| draw.coin());
+        }
+        if draw.below(4) == 0 {
+            case.trip_keys.push(("k.other".into(), 0));
+        }
+    }
+    if draw.below(3) == 0 {
+        case.calendars.push("f".into());
+        case.ranges.push(Range { feed: "f".into(), service: "daily".into(), first: 19700101, last: 20991231, weekdays: 127 });
+    }
+}
+
+/// The updates of a sailing: calls at the trip's rows or at ports, with their times.
+fn updates(draw: &mut Draw, case: &mut Case, ports: &Ports) {
+    let n = ports.at.len() as u64;
+    let start = draw.one_of(&[1_000i64, 36_000, 1_700_000_000, 86_400 * 20_000 + 36_000]);
+    let mut time = start;
+    let rows = if draw.below(20) == 0 { 0 } else { draw.one_of(&[1, 1, 2, 2, 2, 3, 4, 6]).min(n) };
+    let from = (n - rows).min(draw.below(n - rows + 2));
+    for k in from..from + rows {
+        let port = if draw.below(10) == 0 { draw.below(n) } else { k } as usize;
+        let row = case.trips.first().and_then(|trip| trip.calls.get(port)).map(|call| call.sequence);
+        let sequence = row.filter(|_| draw.below(8) != 0).unwrap_or(draw.below(15) as u32);
+        let own = case.stops[ports.stop[port] as usize].id.clone();
+        let arrival = time;
+        let departure = arrival + draw.one_of(&[0, 0, 1, 30, 60]);
+        time = departure + draw.one_of(&[0, 1, 2, 3, 7, 60, 300, 601, 3600]);
+        if draw.below(15) == 0 {
+            time -= 100;
+        }
+        let keeps = |draw: &mut Draw| draw.below(5) != 0;
+        let delay = |draw: &mut Draw| (draw.below(6) == 0).then(|| draw.whole(-300, 300));
+        case.updates.push(Update {
+            sequence,
+            stop: name(draw, &own, ports.number[port]),
+            arrival: Some(arrival.max(0)).filter(|_| keeps(draw)),
+            departure: Some(departure.max(0)).filter(|_| keeps(draw)),
+            arrival_delay: delay(draw),
+            departure_delay: delay(draw),
+        });
+    }
+    case.updates.sort_by_key(|u| u.sequence);
+    case.updates.dedup_by_key(|u| u.sequence);
+}
+
+/// The moments of interest of a case: its times, a second to either side, and some between and about.
+pub fn clocks(draw: &mut Draw, case: &Case) -> Vec<i64> {
+    let mut all = vec![];
+    for u in &case.updates {
+        for time in [u.arrival, u.departure].into_iter().flatten() {
+            let before = draw.one_of(&[5, 10, 20, 29, 30, 31, 60, 115, 120, 700]);
+            all.extend([time - 1, time, time + 1, time - before]);
+        }
+    }
+    let (first, last) = (all.iter().min().copied().unwrap_or(0), all.iter().max().copied().unwrap_or(1000));
+    for _ in 0..8 {
+        all.push(first + draw.below((last - first + 1) as u64) as i64);
+    }
+    all.retain(|now| (0..=4_102_444_799).contains(now));
+    all.push(0);
+    all.sort_unstable();
+    all.dedup();
+    all
+}
+
+pub fn case(draw: &mut Draw) -> Case {
+    let mut case = Case { feed: draw.one_of(&["f", "f", "f", "idfm", "f:Q"]).into(), ..Case::default() };
+    case.offset = draw.one_of(&[0, 0, 3600, 7200, -50_400, 50_400]);
+    case.cancelled = draw.below(30) == 0;
+    let n = draw.one_of(&[1, 2, 3, 4, 4, 5, 6, 8]);
+    let ports = stops(draw, &mut case, n);
+    sailing(draw, &mut case, &ports);
+    updates(draw, &mut case, &ports);
+    case
+}
