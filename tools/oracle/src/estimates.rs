@@ -16,7 +16,8 @@ use std::process::{Command, Stdio};
 /// What a program writes, given this.
 fn answer(program: &str, text: &str) -> String {
     let mut child = Command::new(program).stdin(Stdio::piped()).stdout(Stdio::piped()).stderr(Stdio::null()).spawn().expect("the program starts");
-    child.stdin.take().expect("its input").write_all(text.as_bytes()).expect("it reads");
+    // A program that ends early is told by its answer.
+    let _ = child.stdin.take().expect("its input").write_all(text.as_bytes());
     let out = child.wait_with_output().expect("it ends");
     String::from_utf8_lossy(&out.stdout).trim_end().to_string()
 }
