@@ -4,9 +4,9 @@ use mathlib.Core.List.{[]}
 use Rattle.tables.specs.Pools.{pools}
 use Rattle.tables.specs.Refuse.{refusalOf}
 use Rattle.tables.proofs.Folds.{over, then-rules}
-use Rattle.trip_records.specs.Verdict.{lentCauses}
-use Rattle.trip_records.proofs.check_lent.Statement.{statement}
-use Rattle.trip_records.proofs.check_lent.Tie as tie
+use Rattle.record_refusals.specs.Verdict.{lentCauses}
+use Rattle.record_refusals.proofs.check_lent.Statement.{statement}
+use Rattle.record_refusals.proofs.check_lent.Tie as tie
 
 chart-requires : tie.Need-chart-requires
 chart-requires c κs = search needs

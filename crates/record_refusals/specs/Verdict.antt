@@ -8,7 +8,7 @@ use Rattle.tables.specs.declared.bounds.Bounds.{Bounds}
 use Rattle.schedule_rules.specs.Parts.{stopsCauses}
 use Rattle.shape_rules.specs.Parts.{lineCauses}
 use Rattle.record_faults.specs.declared.Faults.{Faults}
-use Rattle.trip_records.specs.declared.Lent.{Lent}
+use Rattle.record_refusals.specs.declared.Lent.{Lent}
 
 -- the causes of what is lent beside the records: the stops, and the points of the trip's shape
 unfoldable pub lentCauses : Bounds → Lent → List Cause

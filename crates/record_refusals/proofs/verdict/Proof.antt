@@ -1,6 +1,6 @@
-use Rattle.trip_records.specs.Verdict.{verdictOf}
-use Rattle.trip_records.proofs.verdict.Statement.{statement}
-use Rattle.trip_records.proofs.verdict.Tie as tie
+use Rattle.record_refusals.specs.Verdict.{verdictOf}
+use Rattle.record_refusals.proofs.verdict.Statement.{statement}
+use Rattle.record_refusals.proofs.verdict.Tie as tie
 
 over-requires : tie.Need-over-requires
 over-requires c κs = tt

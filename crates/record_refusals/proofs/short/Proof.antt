@@ -1,7 +1,7 @@
 use borrow.Author.Tests.{lt-ltb, le-ltb}
-use Rattle.trip_records.specs.Verdict.{shortOf}
-use Rattle.trip_records.proofs.short.Statement.{statement}
-use Rattle.trip_records.proofs.short.Tie as tie
+use Rattle.record_refusals.specs.Verdict.{shortOf}
+use Rattle.record_refusals.proofs.short.Statement.{statement}
+use Rattle.record_refusals.proofs.short.Tie as tie
 
 returns : tie.Need-returns
 unfolding shortOf

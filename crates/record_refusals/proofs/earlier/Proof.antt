@@ -1,7 +1,7 @@
 use borrow.Author.Tests.{eq-eqb, ne-eqb, lt-ltb, le-ltb}
-use Rattle.trip_records.specs.Verdict.{earlier}
-use Rattle.trip_records.proofs.earlier.Statement.{statement}
-use Rattle.trip_records.proofs.earlier.Tie as tie
+use Rattle.record_refusals.specs.Verdict.{earlier}
+use Rattle.record_refusals.proofs.earlier.Statement.{statement}
+use Rattle.record_refusals.proofs.earlier.Tie as tie
 
 returns : tie.Need-returns
 unfolding earlier

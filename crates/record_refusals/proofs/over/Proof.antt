@@ -1,7 +1,7 @@
 use borrow.Author.Tests.{lt-ltb, le-ltb}
-use Rattle.trip_records.specs.Verdict.{overOf}
-use Rattle.trip_records.proofs.over.Statement.{statement}
-use Rattle.trip_records.proofs.over.Tie as tie
+use Rattle.record_refusals.specs.Verdict.{overOf}
+use Rattle.record_refusals.proofs.over.Statement.{statement}
+use Rattle.record_refusals.proofs.over.Tie as tie
 
 returns : tie.Need-returns
 unfolding overOf

@@ -6,7 +6,7 @@ use mathlib.Core.Bool.{Bool, true, false, cond, _||_}
 use lib.Dec.{eqb, ltb}
 use borrow.Author.Tests.{eqb-true, eqb-false, ltb-false}
 use Rattle.record_faults.specs.declared.Faults.{Faults}
-use Rattle.trip_records.specs.Verdict.{earlier, numbered, overOf, shortOf, verdictOf}
+use Rattle.record_refusals.specs.Verdict.{earlier, numbered, overOf, shortOf, verdictOf}
 
 -- of two refusals neither is there
 module _ (a b : ℕ) where

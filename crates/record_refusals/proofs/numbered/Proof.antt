@@ -1,7 +1,7 @@
 use borrow.Author.Tests.{eq-eqb, ne-eqb}
-use Rattle.trip_records.specs.Verdict.{numbered}
-use Rattle.trip_records.proofs.numbered.Statement.{statement}
-use Rattle.trip_records.proofs.numbered.Tie as tie
+use Rattle.record_refusals.specs.Verdict.{numbered}
+use Rattle.record_refusals.proofs.numbered.Statement.{statement}
+use Rattle.record_refusals.proofs.numbered.Tie as tie
 
 returns : tie.Need-returns
 unfolding numbered
