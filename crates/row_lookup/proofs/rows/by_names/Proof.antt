@@ -1,10 +1,10 @@
--- `services::rows::by_names` meets its contract. Each return: the first part that differs decides.
+-- `row_lookup::rows::by_names` meets its contract. Each return: the first part that differs decides.
 use borrow.Author.Needs.{needs}
 use mathlib.Core.Path.{_∙_, sym}
 use Rattle.columns.proofs.Keys.{only-part, part-less, part-more, part-same}
-use Rattle.services.specs.Rows.{keyOf, partsAt, standOf}
-use Rattle.services.proofs.rows.by_names.Statement.{statement}
-use Rattle.services.proofs.rows.by_names.Tie as tie
+use Rattle.row_lookup.specs.Rows.{keyOf, partsAt, standOf}
+use Rattle.row_lookup.proofs.rows.by_names.Statement.{statement}
+use Rattle.row_lookup.proofs.rows.by_names.Tie as tie
 use Rattle.ids.proofs.compare.Reads as compare-reads
 use Rattle.ids.proofs.id.Reads as id-reads
 

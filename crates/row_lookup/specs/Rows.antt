@@ -10,8 +10,8 @@ use Rattle.ids.specs.declared.order.Order.{Order}
 use Rattle.ids.specs.declared.order.Order.the-variants.{Less, Same, More}
 use Rattle.days.specs.Days.{ordinal}
 use Rattle.columns.specs.Order.{bitOf, cmpParts, notLess}
-use Rattle.services.specs.declared.rows.Rows.{Rows}
-use Rattle.services.specs.declared.rows.Rows.the-variants.{Ranges, Exceptions, Lines}
+use Rattle.row_lookup.specs.declared.rows.Rows.{Rows}
+use Rattle.row_lookup.specs.declared.rows.Rows.the-variants.{Ranges, Exceptions, Lines}
 
 -- the parts of row k
 unfoldable pub partsAt : List ℕ → List ℕ → Rows → ℕ → List (List ℕ)

@@ -1,14 +1,14 @@
--- `services::rows::row_of` meets its contract. Rows that ascend have what is asked of at its place, or nowhere.
+-- `row_lookup::rows::row_of` meets its contract. Rows that ascend have what is asked of at its place, or nowhere.
 use borrow.Author.Needs.{needs}
 use mathlib.Core.List.{List}
 use mathlib.Core.Path.{_∙_, _≡_, sym}
 use Prim.Native.Nat.{ℕ}
 use native.Mathlib.Omega.{arith}
 use Rattle.ids.proofs.ByteOrder.{clash}
-use Rattle.services.specs.Rows.{keyOf, partsAt, standOf}
-use Rattle.services.proofs.Halves.{here, nowhere}
-use Rattle.services.proofs.rows.row_of.Statement.{statement}
-use Rattle.services.proofs.rows.row_of.Tie as tie
+use Rattle.row_lookup.specs.Rows.{keyOf, partsAt, standOf}
+use Rattle.row_lookup.proofs.Halves.{here, nowhere}
+use Rattle.row_lookup.proofs.rows.row_of.Statement.{statement}
+use Rattle.row_lookup.proofs.rows.row_of.Tie as tie
 
 abbrev R : tie.Start → ℕ → List (List ℕ)
 R s = partsAt (s .args .bytes .now) (s .args .words .now) (s .args .rows)

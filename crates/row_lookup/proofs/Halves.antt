@@ -19,7 +19,7 @@ use Rattle.ids.proofs.ByteOrder.{clash, same-equal, split}
 use Rattle.ids.proofs.Search.{first-before, first-hit, first-miss, first-found, first-none}
 use Rattle.columns.specs.Order.{cmpParts, orNext, notLess}
 use Rattle.columns.proofs.Sorted.{parts-trans}
-use Rattle.services.specs.Rows.{isSame, placeOf, rowIs}
+use Rattle.row_lookup.specs.Rows.{isSame, placeOf, rowIs}
 
 -- keys that stand the same are the same
 both-same : (o r : Order) → orNext o r ≡ Same → (o ≡ Same) × (r ≡ Same)

@@ -9,9 +9,9 @@ use ids::cell;
 use ids::compare;
 use ids::id;
 ghost use mathlib.Core.Path.{_≡_};
-ghost use Rattle.services.specs.Rows.{standOf, placeOf, rowIs, InOrder, Ascend};
+ghost use Rattle.row_lookup.specs.Rows.{standOf, placeOf, rowIs, InOrder, Ascend};
 ghost use Rattle.ids.specs.First.{first};
-ghost use Rattle.services.specs.declared.rows.Rows.the-variants.{Ranges, Exceptions};
+ghost use Rattle.row_lookup.specs.declared.rows.Rows.the-variants.{Ranges, Exceptions};
 
 // The columns that a row is found by.
 pub enum Rows {

@@ -17,8 +17,8 @@ use Rattle.days.proofs.Ascending.{ordinal-order}
 use Rattle.columns.specs.Order.{cmpParts, cmpRows, orNext, partsOf}
 use Rattle.columns.specs.declared.order.Key.{Key}
 use Rattle.columns.specs.declared.order.Key.the-variants.{IdWord, Ids, Dated}
-use Rattle.services.specs.Rows.{partsAt, InOrder, Ascend}
-use Rattle.services.specs.declared.rows.Rows.the-variants.{Ranges, Exceptions, Lines}
+use Rattle.row_lookup.specs.Rows.{partsAt, InOrder, Ascend}
+use Rattle.row_lookup.specs.declared.rows.Rows.the-variants.{Ranges, Exceptions, Lines}
 
 module _ (bytes words : List ℕ) where
   -- rows below n are in the order of their keys
