@@ -1,6 +1,6 @@
 // The C names under which tools/oracle calls leg drawing. Each says no more than the function that it calls.
 use ids::IdColumn;
-use journeys::JourneyLegs;
+use journey_rules::JourneyLegs;
 use journeys::journey_geometry;
 use leg_drawing::leg_geometry;
 use point_columns::Drawing;
@@ -13,8 +13,8 @@ ghost use Rattle.tables.specs.Refuse.{chartBounds, refusalOf};
 ghost use Rattle.checks.specs.Operations.{legCauses};
 ghost use Rattle.point_columns.specs.Answers.{drawingAnswer, drawnAnswer, latAfter, lonAfter};
 ghost use Rattle.leg_drawing.specs.Trip.{askedPoints};
-ghost use Rattle.journeys.specs.Causes.{journeyCauses};
-ghost use Rattle.journeys.specs.Journey.{journeyPoints};
+ghost use Rattle.journey_rules.specs.Causes.{journeyCauses};
+ghost use Rattle.journey_points.specs.Journey.{journeyPoints};
 
 // 0, with how many points in `points`, or the refusal's number, with `points` as it was.
 fn told(d: Drawing, points: &mut usize) -> u32
