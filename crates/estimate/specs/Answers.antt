@@ -1,5 +1,6 @@
 -- The estimate as document 01 publishes it: the first refusal that applies, its number alone, or the outcome. Definitions only.
-use Rattle.measure.specs.Answer.{Answer}
+use Prim.Native.Nat.{ℕ}
+use Rattle.measure.specs.Answer.{Answer, refused, given}
 use Rattle.answers.specs.Answers.{unlessRefused}
 use Rattle.tables.specs.Pools.{Pools}
 use Rattle.tables.specs.Refuse.{chartBounds, refusalOf}
@@ -8,7 +9,16 @@ use Rattle.checks.specs.Operations.{estimateCauses}
 use Rattle.sailings.specs.Sailing.{clockOf}
 use Rattle.voyages.specs.Outcome.{outcomeAt}
 use Rattle.voyages.specs.declared.record.Outcome.{Outcome}
+use Rattle.voyages.specs.declared.record.Outcome.the-variants.{At as Outcome·at, Silence as Outcome·silence}
 use Rattle.estimate.specs.Plan.{voyageOf}
+use Rattle.estimate.specs.declared.operation.Estimated.{Estimated}
+use Rattle.estimate.specs.declared.operation.Estimated.the-variants.{At, Silence, Refused}
+
+-- the number and the value of each case
+abbrev pub estimateAnswer : Estimated → Answer Outcome
+estimateAnswer (At estimate place) = given (Outcome·at estimate place)
+estimateAnswer Silence = given Outcome·silence
+estimateAnswer (Refused n) = refused n
 
 -- the estimate of the lent tables
 unfoldable pub estimateOf : Pools → Tables → Answer Outcome

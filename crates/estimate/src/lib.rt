@@ -7,4 +7,5 @@ mod operation; // operation.rt: the whole
 mod pin; // pin.rt: without a call
 mod turn; // turn.rt: with a call
 
-pub use operation::outcome;
+pub use operation::Estimated;
+pub use operation::estimate;
