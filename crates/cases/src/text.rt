@@ -1,37 +1,51 @@
-// The lines of standard input. A text is read in chunks; a line is put together in a buffer of its own.
-use crate::fault::Why;
-use crate::held::Case;
-use crate::held::Step;
-use crate::limits;
-use crate::line::form;
-use crate::put;
-use crate::query::Query;
-use crate::query::query_of;
-use libc::STDIN_FILENO;
-ghost use Prim.Native.Nat.{_+_, _≤_};
+// The lines of a case.
+use crate::lines::Taken;
+use crate::lines::next_line;
+use case_forms::read_form;
+use case_queries::Query;
+use case_queries::query_of;
+use case_tables::count;
+use case_tables::layout;
+use case_tables::put;
+use case_tokens::field;
+use case_tokens::inside;
+use case_words::Form;
+use case_words::Why;
+use case_words::form_of;
+ghost use Prim.Native.Nat.{_+_, _<_, _≤_};
 ghost use lib.ListN.{length};
 
-// More chunks than any text has.
-const CHUNKS: u64 = 9223372036854775808;
-
-// What a text is.
-pub enum Outcome {
-    Read(Case),
-    // the line, from 1, that is no form, or the last; and why
-    Fault(u64, Why),
-}
+// More lines than any text has.
+const LINES: u64 = 9223372036854775808;
 
 // How far a text is read.
-struct Place {
-    case: Case,
-    // bytes of the line so far, and lines before it
-    length: usize,
-    lines: u64,
+pub struct Reading {
+    // the chunk's bytes that are read and not taken
+    pub at: usize,
+    pub n: usize,
+    // the lines of the case so far, up to the first that is no form
+    pub lines: u64,
+    // whether all so far are forms; else the form that the last is not, and why
+    pub good: bool,
+    pub form: Form,
+    pub why: Why,
+    // whether the case is over, and the text
+    pub over: bool,
+    pub last: bool,
 }
 
-enum Going {
-    On(Place),
-    Off(u64, Why),
+// Before the first line of a case, with so much of the text read and not taken.
+pub fn start(at: usize, n: usize) -> Reading {
+    Reading {
+        at,
+        n,
+        lines: 0,
+        good: true,
+        form: Form::Other,
+        why: Why::Nothing,
+        over: false,
+        last: false,
+    }
 }
 
 // Copies a text to `to`, from `at` on, where there is room.
@@ -46,191 +60,197 @@ fn copy(s: &[u8], to: &mut [u8], at: usize)
 }
 
 // Keeps a query, with a newline, after the others.
-fn kept(s: &[u8], queries: &mut [u8], c: Case) -> Step {
-    let at = c.queries as usize;
+fn kept(s: &[u8], queries: &mut [u8], words: &mut [u32]) -> Why {
+    let before = count(words, layout::HELD_QUERY_BYTES);
+    let at = before as usize;
     let n = s.len();
-    if limits::LINE as usize <= n {
-        return Step::Bad(Why::Long);
+    if queries.len() <= n {
+        return Why::Queries;
     }
-    if queries.len() <= at + n {
-        return Step::Bad(Why::Queries);
+    if queries.len() - n <= at {
+        return Why::Queries;
     }
     copy(s, queries, at);
-    put::byte(queries, c.queries, n as u32, b'\n');
-    let mut d = c;
-    d.queries = std::num::wrapping_add_u32(c.queries, n as u32 + 1);
-    Step::Next(d)
+    put::byte(queries, before, (n % 4294967296) as u32, b'\n');
+    let used = std::num::wrapping_add_u32(before, (n % 4294967296) as u32);
+    put::word(words, layout::HELD_QUERY_BYTES, 0, used);
+    put::more(words, layout::HELD_QUERY_BYTES, 0);
+    Why::Nothing
 }
 
 // A query, or a line that is no form.
-fn asked(s: &[u8], queries: &mut [u8], c: Case) -> Step {
+fn asked(s: &[u8], queries: &mut [u8], words: &mut [u32]) -> Why {
     match query_of(s) {
-        Query::Nothing => Step::Bad(Why::Name),
-        _ => kept(s, queries, c),
+        Query::Nothing => Why::Name,
+        _ => kept(s, queries, words),
     }
 }
 
-// What a line makes of a case.
-fn line_step(
-    line: &[u8],
+// A line, of what stands between its parentheses and the form that it names.
+fn line_of(
+    s: &[u8],
     queries: &mut [u8],
     bytes: &mut [u8],
     words: &mut [u32],
     times: &mut [i64],
     reals: &mut [f64],
     dists: &mut [f32],
-    c: Case,
-) -> Step {
-    let s = case_tokens::inside(line);
-    match form(s, bytes, words, times, reals, dists, c) {
-        Step::Next(d) => Step::Next(d),
-        Step::Bad(why) => Step::Bad(why),
-        Step::Other => asked(s, queries, c),
+    form: Form,
+) -> Why {
+    match form {
+        Form::Other => asked(s, queries, words),
+        _ => read_form(s, bytes, words, times, reals, dists, form),
     }
 }
 
-// Reads the line that has ended.
-fn line_end(
+// At fault in this line.
+fn at_fault(r: Reading, lines: u64, form: Form, why: Why) -> Reading {
+    Reading {
+        at: r.at,
+        n: r.n,
+        lines,
+        good: false,
+        form,
+        why,
+        over: r.over,
+        last: r.last,
+    }
+}
+
+// After a line of a text that was good so far.
+fn judged(r: Reading, form: Form, why: Why) -> Reading {
+    let lines = std::num::wrapping_add_u64(r.lines, 1);
+    match why {
+        Why::Nothing => {
+            let mut next = r;
+            next.lines = lines;
+            next
+        }
+        _ => at_fault(r, lines, form, why),
+    }
+}
+
+// After the next line, of this length, which the buffer may not hold.
+fn next_of(
     line: &[u8],
+    n: usize,
     queries: &mut [u8],
     bytes: &mut [u8],
     words: &mut [u32],
     times: &mut [i64],
     reals: &mut [f64],
     dists: &mut [f32],
-    p: Place,
-) -> Going {
-    let n = p.length;
-    let lines = std::num::wrapping_add_u64(p.lines, 1);
+    r: Reading,
+) -> Reading {
     if line.len() < n {
-        return Going::Off(lines, Why::Long);
+        return judged(r, Form::Other, Why::Long);
     }
-    let case = p.case;
-    match line_step(
-        &line[0..n],
+    let s = inside(ids::part(line, 0, n));
+    let form = form_of(field(s, 0));
+    let why = line_of(s, queries, bytes, words, times, reals, dists, form);
+    judged(r, form, why)
+}
+
+// After what is taken of the text, of a case that goes to the line `end` or to the end of the text. After a line that is no form, lines are passed over.
+fn after(
+    line: &[u8],
+    queries: &mut [u8],
+    bytes: &mut [u8],
+    words: &mut [u32],
+    times: &mut [i64],
+    reals: &mut [f64],
+    dists: &mut [f32],
+    end: &[u8],
+    taken: Taken,
+    r: Reading,
+) -> Reading {
+    let n = taken.length;
+    let mut next = r;
+    next.at = taken.at;
+    next.n = taken.n;
+    if taken.over {
+        next.over = true;
+        next.last = true;
+        return next;
+    }
+    if ids::same(ids::part(line, 0, n), end) {
+        next.over = true;
+        return next;
+    }
+    if !next.good {
+        return next;
+    }
+    next_of(line, n, queries, bytes, words, times, reals, dists, next)
+}
+
+// Takes the next line.
+fn step(
+    text: &mut [u8],
+    line: &mut [u8],
+    queries: &mut [u8],
+    bytes: &mut [u8],
+    words: &mut [u32],
+    times: &mut [i64],
+    reals: &mut [f64],
+    dists: &mut [f32],
+    end: &[u8],
+    r: Reading,
+) -> Reading {
+    let taken = next_line(text, line, r.at, r.n);
+    after(
+        line,
         queries,
         bytes,
         words,
         times,
         reals,
         dists,
-        case,
-    ) {
-        Step::Next(d) => Going::On(Place {
-            case: d,
-            length: 0,
-            lines,
-        }),
-        Step::Bad(why) => Going::Off(lines, why),
-        Step::Other => Going::Off(lines, Why::Name),
-    }
-}
-
-// Reads a byte, if no line before was at fault.
-fn byte_step(
-    b: u8,
-    line: &mut [u8],
-    queries: &mut [u8],
-    bytes: &mut [u8],
-    words: &mut [u32],
-    times: &mut [i64],
-    reals: &mut [f64],
-    dists: &mut [f32],
-    g: Going,
-) -> Going {
-    let Going::On(p) = g else {
-        return g;
-    };
-    if b == b'\n' {
-        return line_end(line, queries, bytes, words, times, reals, dists, p);
-    }
-    let n = p.length;
-    if line.len() <= n {
-        return Going::Off(std::num::wrapping_add_u64(p.lines, 1), Why::Long);
-    }
-    line[n] = b;
-    let mut q = p;
-    q.length = n + 1;
-    Going::On(q)
-}
-
-// Reads a chunk.
-fn chunk(
-    text: &[u8],
-    line: &mut [u8],
-    queries: &mut [u8],
-    bytes: &mut [u8],
-    words: &mut [u32],
-    times: &mut [i64],
-    reals: &mut [f64],
-    dists: &mut [f32],
-    g: Going,
-) -> Going {
-    let mut so_far = g;
-    let mut i = 0;
-    while i < text.len() {
-        so_far = byte_step(
-            text[i],
-            line,
-            queries,
-            bytes,
-            words,
-            times,
-            reals,
-            dists,
-            so_far,
-        );
-        i += 1;
-    }
-    so_far
+        end,
+        taken,
+        r,
+    )
 }
 
 // A case has a feed, a trip and a clock.
-fn whole(lines: u64, c: Case) -> Outcome {
-    if !c.fed {
-        return Outcome::Fault(lines, Why::Feed);
+fn lacking(words: &[u32]) -> Why {
+    if count(words, layout::HELD_FEEDS) == 0 {
+        return Why::NoFeed;
     }
-    if !c.keyed {
-        return Outcome::Fault(lines, Why::Trip);
+    if count(words, layout::HELD_KEYS) == 0 {
+        return Why::NoTrip;
     }
-    if !c.timed {
-        return Outcome::Fault(lines, Why::Now);
+    if count(words, layout::HELD_NOWS) == 0 {
+        return Why::NoNow;
     }
-    Outcome::Read(c)
-}
-
-// What the last line makes of a case, if it lacks its newline.
-fn last_line(
-    line: &[u8],
-    queries: &mut [u8],
-    bytes: &mut [u8],
-    words: &mut [u32],
-    times: &mut [i64],
-    reals: &mut [f64],
-    dists: &mut [f32],
-    g: Going,
-) -> Going {
-    let Going::On(p) = g else {
-        return g;
-    };
-    if p.length == 0 {
-        return g;
-    }
-    line_end(line, queries, bytes, words, times, reals, dists, p)
+    Why::Nothing
 }
 
 // After the last line.
-fn ended(g: Going) -> Outcome {
-    match g {
-        Going::On(p) => {
-            let case = p.case;
-            whole(p.lines, case)
-        }
-        Going::Off(at, why) => Outcome::Fault(at, why),
+fn ended(words: &[u32], r: Reading) -> Reading {
+    if !r.over {
+        return at_fault(r, r.lines, Form::Other, Why::Endless);
+    }
+    if !r.good {
+        return r;
+    }
+    match lacking(words) {
+        Why::Nothing => r,
+        why => at_fault(r, r.lines, Form::Other, why),
     }
 }
 
-// Reads standard input: `text` and `line` hold a chunk and a line of it, and queries are kept in `queries`.
+// The next line's number, or the last of all where the case is over.
+fn turn(k: u64, over: bool) -> u64
+    requires { ⌜ k < 9223372036854775808 ⌝ }
+    ensures { λ r. ⌜ k < r ⌝ }
+{
+    if over {
+        return LINES;
+    }
+    k + 1
+}
+
+// Reads a case from standard input, up to a line `end` or the end of the text: `text` and `line` hold a chunk and a line, and queries are kept in `queries`.
 pub fn read(
     text: &mut [u8],
     line: &mut [u8],
@@ -240,20 +260,14 @@ pub fn read(
     times: &mut [i64],
     reals: &mut [f64],
     dists: &mut [f32],
-) -> Outcome {
-    let mut so_far = Going::On(Place {
-        case: Case::new(),
-        length: 0,
-        lines: 0,
-    });
+    end: &[u8],
+    from: Reading,
+) -> Reading {
+    let mut so_far = from;
     let mut k: u64 = 0;
-    while k < CHUNKS {
-        let n = io::read_full(STDIN_FILENO, text);
-        if n == 0 {
-            return ended(last_line(line, queries, bytes, words, times, reals, dists, so_far));
-        }
-        so_far = chunk(
-            &text[..n],
+    while k < LINES {
+        so_far = step(
+            text,
             line,
             queries,
             bytes,
@@ -261,9 +275,10 @@ pub fn read(
             times,
             reals,
             dists,
+            end,
             so_far,
         );
-        k += 1;
+        k = turn(k, so_far.over);
     }
-    Outcome::Fault(0, Why::Endless)
+    ended(words, so_far)
 }

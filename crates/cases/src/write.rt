@@ -1,5 +1,8 @@
 // Answers, and faults of a text.
-use crate::fault::Why;
+use crate::text::Reading;
+use case_tables::limits;
+use case_words::Form;
+use case_words::Why;
 use libc::STDERR_FILENO;
 use libc::STDOUT_FILENO;
 
@@ -36,37 +39,72 @@ fn print_byte(b: u8) {
 }
 
 // Refusal 11: its cause goes to standard error.
-pub fn print_fault(line: u64, why: Why) {
-    io::write_all(STDERR_FILENO, b"line ");
-    io::print_decimal(STDERR_FILENO, line);
-    io::write_all(STDERR_FILENO, b": ");
-    print_why(why);
-    io::write_all(STDERR_FILENO, b"\n");
+pub fn print_fault(r: Reading) {
+    let form = r.form;
+    let why = r.why;
+    say(b"line ");
+    io::print_decimal(STDERR_FILENO, r.lines);
+    say(b": ");
+    say_name(form);
+    say_why(why);
+    say(b"\n");
     print_refusal(11);
 }
 
-fn print_why(why: Why) {
+// The name of a form.
+fn say_name(form: Form) {
+    match form {
+        Form::Feed => say(b"feed: "),
+        Form::Trip => say(b"trip: "),
+        Form::Now => say(b"now: "),
+        Form::Offset => say(b"offset: "),
+        Form::Cancelled => say(b"cancelled: "),
+        Form::Route => say(b"route: "),
+        Form::Update => say(b"update: "),
+        Form::Stop => say(b"stop: "),
+        Form::StopKey => say(b"stop-key: "),
+        Form::Static => say(b"static: "),
+        Form::StaticKey => say(b"static-key: "),
+        Form::Call => say(b"call: "),
+        Form::Shape => say(b"shape: "),
+        Form::Point => say(b"point: "),
+        Form::Alias => say(b"alias: "),
+        Form::Line => say(b"line: "),
+        Form::Calendar => say(b"calendar: "),
+        Form::Range => say(b"range: "),
+        Form::Exception => say(b"exception: "),
+        Form::Other => {}
+    }
+}
+
+fn say_why(why: Why) {
     match why {
+        Why::Nothing => {}
         Why::Long => say(b"longer than any form"),
-        Why::Name => say(b"no form has this name, or this name with these tokens"),
-        Why::Fields => say(b"too few tokens, too many, or not in this order"),
-        Why::Id => say(b"no id, or more id bytes than are held"),
-        Why::Number => say(b"no number"),
-        Why::Moment => say(b"no moment or delay"),
-        Why::Real => say(b"no f64 of 16 digits"),
-        Why::Single => say(b"no f32 of 8 digits"),
-        Why::Days => say(b"no seven of 0 and 1"),
-        Why::Kind => say(b"neither added nor removed"),
-        Why::Again => say(b"a form that stands once stands again"),
-        Why::CallFirst => say(b"a call before any static"),
-        Why::PointFirst => say(b"a point before any shape"),
-        Why::Rows => say(b"more rows than are held"),
-        Why::Queries => say(b"a query, where none is held, or more than are held"),
-        Why::Feed => say(b"the text has no feed"),
-        Why::Trip => say(b"the text has no trip"),
-        Why::Now => say(b"the text has no now"),
+        Why::Name => say(b"no form of this name, or no query that is written so"),
+        Why::Tokens => say(b"too few words or too many, or a bracket out of its place"),
+        Why::Token(i) => say_number(b"not what this form takes as word ", i),
+        Why::Again => say(b"stands again"),
+        Why::Rows(n) => say_number(b"more rows than are held, which are ", n),
+        Why::Ids => say_number(
+            b"more bytes of ids than are held, which are ",
+            limits::ID_BYTES,
+        ),
+        Why::Queries => say(
+            b"more queries than are held, or a query for a program that holds none",
+        ),
+        Why::NoStatic => say(b"no static stands above it"),
+        Why::NoShape => say(b"no shape stands above it"),
+        Why::NoFeed => say(b"the text ends without a feed"),
+        Why::NoTrip => say(b"the text ends without a trip"),
+        Why::NoNow => say(b"the text ends without a now"),
         Why::Endless => say(b"the text does not end"),
     }
+}
+
+fn say_number(text: &[u8], n: u32) {
+    say(text);
+    io::print_decimal(STDERR_FILENO, n as u64);
 }
 
 fn say(text: &[u8]) {
