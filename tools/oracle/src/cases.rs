@@ -4,6 +4,7 @@ use std::fmt::Write;
 
 pub mod asked;
 pub mod harm;
+pub mod lay;
 pub mod limits;
 pub mod make;
 pub mod meets;
