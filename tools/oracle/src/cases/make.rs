@@ -36,11 +36,15 @@ fn name(draw: &mut Draw, own: &str, k: u64) -> Option<String> {
     }
 }
 
+/// Steps in degrees: two points the same to a chain, some about a metre, miles.
+const STEPS: [f64; 14] = [1e-9, 9e-10, 1e-6, 3e-6, 4e-6, 5e-6, 1e-5, 2e-5, 0.001, 0.001, 0.01, 0.01, 0.1, 0.5];
+
 /// Positions of ports, one after another, each a step on.
 fn ports(draw: &mut Draw, n: u64) -> Vec<(f64, f64)> {
-    let starts = [(48.8, 2.3), (0.0, 0.0), (-0.0, -0.0), (59.9, 10.7), (0.0, 179.9), (-33.8, 151.2), (82.25, 0.0)];
+    let starts =
+        [(48.8, 2.3), (0.0, 0.0), (0.0, 0.0), (-0.0, -0.0), (59.9, 10.7), (0.0, 179.9), (-33.8, 151.2), (82.25, 0.0)];
     let (mut lat, mut lon): (f64, f64) = draw.one_of(&starts);
-    let step = draw.one_of(&[1e-9, 9e-10, 1.1e-9, 1e-6, 1e-5, 0.001, 0.001, 0.01, 0.01, 0.1, 0.5]);
+    let usual = draw.one_of(&STEPS);
     let turn = draw.below(4) == 0;
     // no number is as far as between these two
     let far = draw.below(25) == 0;
@@ -48,6 +52,7 @@ fn ports(draw: &mut Draw, n: u64) -> Vec<(f64, f64)> {
         .map(|k| {
             let at = (lat, lon);
             let back = if turn && k > n / 2 { -1.0 } else { 1.0 };
+            let step = if draw.below(8) == 0 { draw.one_of(&[1e-9, 1e-9, 1.1e-9, 1e-5]) } else { usual };
             if draw.below(8) != 0 {
                 lat = (lat + back * step * draw.one_of(&[0.0, 0.5, 1.0])).clamp(-90.0, 90.0);
                 lon = (lon + back * step * draw.one_of(&[0.0, 1.0, 1.0, -1.0])).clamp(-180.0, 180.0);
@@ -61,9 +66,19 @@ fn ports(draw: &mut Draw, n: u64) -> Vec<(f64, f64)> {
         .collect()
 }
 
+/// A point so far off the way from one port to another that the way by it is some four times as long.
+fn detour(draw: &mut Draw, a: (f64, f64), b: (f64, f64)) -> (f64, f64) {
+    let (north, east) = (b.0 - a.0, b.1 - a.1);
+    let times: f64 = draw.between(3.0, 5.5);
+    let off = (times * times - 1.0).sqrt() / 2.0;
+    let at = (a.0 + north / 2.0 + east * off, a.1 + east / 2.0 - north * off);
+    (at.0.clamp(-90.0, 90.0), at.1.clamp(-180.0, 180.0))
+}
+
 /// A shape about the ports: with points between, turned round, out and back, or short.
 fn shape(draw: &mut Draw, ports: &[(f64, f64)]) -> Vec<(f64, f64)> {
     let mut line = vec![];
+    let detours = draw.below(6) == 0;
     for pair in ports.windows(2) {
         let n = if draw.below(40) == 0 { draw.below(60) } else { draw.below(4) };
         for j in 0..=n {
@@ -71,6 +86,10 @@ fn shape(draw: &mut Draw, ports: &[(f64, f64)]) -> Vec<(f64, f64)> {
             let off = draw.one_of(&[0.0, 0.0, 0.0, 1e-5, 0.002]);
             let at = |a: f64, b: f64| a + (b - a) * t + off;
             line.push((at(pair[0].0, pair[1].0).clamp(-90.0, 90.0), at(pair[0].1, pair[1].1).clamp(-180.0, 180.0)));
+        }
+        if detours && draw.coin() {
+            line.truncate(line.len() - n as usize);
+            line.push(detour(draw, pair[0], pair[1]));
         }
     }
     line.extend(ports.last());
@@ -82,7 +101,7 @@ fn shape(draw: &mut Draw, ports: &[(f64, f64)]) -> Vec<(f64, f64)> {
             line.extend(back);
         }
         3 => line.insert(0, (-82.25, 180.0)),
-        4 => line.insert(line.len() / 2, line[line.len() / 2]),
+        4 | 6 => line.insert(line.len() / 2, line[line.len() / 2]),
         _ => {}
     }
     line
@@ -182,8 +201,8 @@ fn trip(draw: &mut Draw, case: &mut Case, ports: &Ports, id: String) -> Trip {
     };
     let calls = (0..n as usize).map(|k| {
         let arrival = second;
-        let departure = arrival + draw.one_of(&[0, 0, 20, 60]);
-        second = departure + draw.one_of(&[0, 10, 29, 30, 31, 120, 600]);
+        let departure = arrival + draw.one_of(&[0, 0, 0, 20, 60]);
+        second = departure + draw.one_of(&[0, 10, 29, 30, 31, 50, 100, 120, 600]);
         let stop = if draw.below(12) == 0 { draw.below(n) as u32 } else { ports.stop[k] };
         Call { sequence: sequences[k], stop, arrival, departure, dist: dists[k] }
     });
@@ -282,12 +301,14 @@ fn updates(draw: &mut Draw, case: &mut Case, ports: &Ports) {
     let mut time = ports.start + draw.one_of(&[0, 0, 0, 60, 61]);
     let rows = if draw.below(30) == 0 { 0 } else { draw.one_of(&[1, 1, 2, 2, 2, 3, 4, 6, 8]).min(n) };
     let keep = draw.one_of(&[1, 1, 1, 5, 20]);
+    let timeless = draw.below(25) == 0;
     let from = (n - rows).min(draw.below(n - rows + 2));
     for k in from..from + rows {
         let port = if draw.below(10) == 0 { draw.below(n) } else { k } as usize;
         let row = case.trips.first().and_then(|trip| trip.calls.get(port)).map(|call| call.sequence);
-        let sequence = row.filter(|_| draw.below(8) != 0).unwrap_or(draw.below(15) as u32);
-        let own = case.stops[ports.stop[port] as usize].id.clone();
+        let sequence = row.filter(|_| draw.below(6) != 0).unwrap_or(draw.below(15) as u32);
+        let other = if draw.below(12) == 0 { draw.below(n) as usize } else { port };
+        let own = case.stops[ports.stop[other] as usize].id.clone();
         let arrival = time;
         let departure = arrival + draw.one_of(&[0, 0, 1, 30, 60]);
         time = departure + draw.one_of(&[0, 1, 2, 3, 7, 60, 300, 601, 3600]);
@@ -295,11 +316,11 @@ fn updates(draw: &mut Draw, case: &mut Case, ports: &Ports) {
             time -= 100;
         }
         let departure = if draw.below(20) == 0 { arrival - draw.one_of(&[1, 50, 200]) } else { departure };
-        let keeps = |draw: &mut Draw| draw.below(5 * keep) != 0;
-        let delay = |draw: &mut Draw| (draw.below(6) == 0).then(|| draw.whole(-300, 300));
+        let keeps = |draw: &mut Draw| !timeless && draw.below(5 * keep) != 0;
+        let delay = |draw: &mut Draw| (draw.below(if timeless { 3 } else { 6 }) == 0).then(|| draw.whole(-300, 300));
         case.updates.push(Update {
             sequence,
-            stop: name(draw, &own, ports.number[port]),
+            stop: name(draw, &own, ports.number[other]),
             arrival: Some(arrival.clamp(0, LAST)).filter(|_| keeps(draw)),
             departure: Some(departure.clamp(0, LAST)).filter(|_| keeps(draw)),
             arrival_delay: delay(draw),
@@ -318,7 +339,7 @@ pub fn clocks(draw: &mut Draw, case: &Case) -> Vec<i64> {
     let mut all = vec![];
     for u in &case.updates {
         for time in [u.arrival, u.departure].into_iter().flatten() {
-            let before = draw.one_of(&[5, 10, 20, 29, 30, 31, 60, 115, 120, 700]);
+            let before = draw.one_of(&[2, 3, 4, 5, 7, 8, 9, 10, 20, 29, 30, 31, 60, 115, 120, 700]);
             all.extend([time - 1, time, time + 1, time - before]);
         }
     }

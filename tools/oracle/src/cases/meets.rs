@@ -1,6 +1,8 @@
 //! What a case and its clock meet, counted so that a run shows that it reached every path and every bound.
 use super::place::{Kind, Place};
 use super::plan::{lengths, Path, Plan};
+use super::Update;
+use crate::gtfs::pack::PackedStopTime;
 use crate::gtfs::siri_trip_map::{fuzzy_unique_match, resolve_by_route_and_time, siri_ref_lookup_keys};
 use crate::met::Met;
 use crate::routing::geometry::trip_shape_dist_affine;
@@ -45,6 +47,9 @@ fn note_trip(met: &mut Met, plan: &Plan) {
     met.note(plan.trip().is_some_and(|trip| trip.stop_time_len == 0), "trip: one without rows");
     met.note(case.trip_keys.iter().any(|key| key.0 == plan.base), "trip: exact id of another id's row");
     met.note(!exact && !case.exceptions.is_empty() && way == "trip: route and time", "trip: by time, with exceptions");
+    let departures: Vec<i64> = case.updates.iter().filter_map(|u| u.departure.or(u.arrival)).collect();
+    let later = departures.first() > departures.iter().min();
+    met.note(later && way == "trip: route and time", "trip: by time, of an update that is not the first");
     met.note(!exact && case.calendars.is_empty() && way == "trip: route and time", "trip: by time, without a calendar");
 }
 
@@ -120,6 +125,11 @@ fn note_turn(met: &mut Met, plan: &Plan, now: i64, place: Option<Place>) {
     let going = !case.cancelled && !case.updates.is_empty();
     met.note(going && n == 0 && place.is_none(), "silence: no call, the best stop not placed");
     met.note(going && n == 0 && place.is_some(), "a pin: no call, the best stop placed");
+    let signalled = |u: &Update| {
+        u.arrival.is_some() || u.departure.is_some() || u.arrival_delay.is_some() || u.departure_delay.is_some()
+    };
+    let silent_last = case.updates.last().is_some_and(|u| !signalled(u)) && case.updates.iter().any(signalled);
+    met.note(going && n == 0 && place.is_some() && silent_last, "a pin: by a signal, below a higher sequence");
     if !going || n == 0 {
         return;
     }
@@ -142,6 +152,16 @@ fn note_turn(met: &mut Met, plan: &Plan, now: i64, place: Option<Place>) {
     met.note(leg_one && plan.run().is_none(), "approach: 120 seconds for want of a row");
     met.note(leg_one && plan.run() == Some(30), "approach: a run of 30 seconds");
     met.note(leg_one && plan.run().is_some_and(|run| run > 30), "approach: a run of the rows");
+    let remaining = (plan.arrival(0) - now).max(0) as f64;
+    let frac = 1.0 - remaining / plan.run().unwrap_or(120) as f64;
+    met.note(leg_one && frac == 0.92, "approach: 0.92 of the leg");
+    met.note(leg_one && frac > 0.92 && frac < 0.93, "approach: over 0.92 of the leg, under 0.93");
+    let backward = |k: usize| plan.departure(k) < plan.arrival(k);
+    met.note(
+        (0..n).any(|k| now == plan.departure(k) && backward(k)) && matches!(place, Some(Place::Start(_))),
+        "times: at a departure before its arrival, the next leg's start",
+    );
+    met.note(n > 1 && now == plan.arrival(0) && backward(0), "times: at the first arrival, past its departure");
 }
 
 const TURNS: [&str; 8] = [
@@ -175,6 +195,8 @@ fn note_choice(met: &mut Met, plan: &Plan, from: &CallPoint, to: &CallPoint, pat
     met.note(!both, "by vertices: a distance is missing");
     met.note(both && !affine, "by vertices: no calibration");
     met.note(both && affine, "by vertices: distances under 0.5 apart");
+    let apart = both && dist(from.seq) != dist(to.seq);
+    met.note(apart && affine && plan.apart(trip, from, to) > 0.1, "by vertices: distances from 0.1 to 0.5 apart");
     let (i0, i1) = (nearest_idx(line, from.lat, from.lon), nearest_idx(line, to.lat, to.lon));
     let total = *lengths(&line[i0.min(i1)..=i0.max(i1)]).last().expect("a length");
     let chord = haversine_m(from.lat, from.lon, to.lat, to.lon);
@@ -184,6 +206,14 @@ fn note_choice(met: &mut Met, plan: &Plan, from: &CallPoint, to: &CallPoint, pat
     met.note(i0 != i1 && long && over, "part refused: over 4 chords and over 500");
     met.note(i0 != i1 && long && !over && total >= 1.0, "part taken: over 4 chords, not over 500");
     met.note(i0 != i1 && !long && over, "part taken: over 500, not over 4 chords");
+    let times = total / chord;
+    met.note(i0 != i1 && over && times > 4.0 && times < 5.0, "part refused: from 4 to 5 chords");
+    met.note(i0 != i1 && over && times > 3.0 && times < 4.0, "part taken: from 3 to 4 chords, over 500");
+    met.note(i0 != i1 && long && total > 500.0 && total < 600.0, "part refused: from 500 to 600 in all");
+    met.note(i0 != i1 && long && total > 400.0 && total < 500.0, "part taken: from 400 to 500 in all, over 4 chords");
+    let near = |at: &CallPoint| line.iter().map(|p| (p.0 - at.lat).hypot(p.1 - at.lon)).collect::<Vec<f64>>();
+    let twice = |d: Vec<f64>| d.iter().filter(|&&x| Some(x) == d.iter().copied().reduce(f64::min)).count() > 1;
+    met.note(i0 != i1 && !(long && over) && twice(near(to)), "part taken: two vertices equally near");
     met.note(i0 != i1 && long && over && chord.is_nan(), "part refused: a chord of NaN counts as 1");
     met.note(i0 != i1 && total.is_nan(), "part taken: a length of NaN");
 }
@@ -202,6 +232,29 @@ fn note_chain(met: &mut Met, plan: &Plan, from: &CallPoint, to: &CallPoint, line
     met.note(
         inner && total >= 1.0 && from.seq > to.seq && line.len() > 2,
         "chain: turned round, of three points or more",
+    );
+    met.note(
+        inner && total >= 1.0 && from.seq > to.seq && line.len() > 3,
+        "chain: turned round, of four points or more",
+    );
+    met.note(inner && total >= 1.0 && total < 2.0, "chain: from 1 to 2 in all");
+    met.note(inner && total >= 0.5 && total < 1.0, "chain: from 0.5 to 1 in all");
+    let at = |row: &&PackedStopTime| {
+        let stop = &plan.epoch.stops[row.stop_idx as usize];
+        stop.lat.zip(stop.lon)
+    };
+    let points: Vec<(f64, f64)> = between.iter().filter_map(at).collect();
+    met.note(
+        inner && total >= 1.0 && points.len() > 1 && from.seq < to.seq && points[0] != (from.lat, from.lon),
+        "chain: a call elsewhere than its row",
+    );
+    let apart = |a: f64, b: f64| (a - b).abs();
+    met.note(
+        inner
+            && total >= 1.0
+            && line.len() > 2
+            && points.windows(2).any(|p| apart(p[0].0, p[1].0).max(apart(p[0].1, p[1].1)) == 1e-9),
+        "chain: two stops exactly 1e-9 apart",
     );
     met.note(inner && line.len() > 2, "chain: of three points or more");
     met.note(inner && placed < 2, "chain: two calls for want of rows");
@@ -224,6 +277,10 @@ fn note_leg(met: &mut Met, plan: &Plan, place: Place) {
     let (by_distance, part) = (matches!(leg.path, Path::ByDistance(..)), matches!(leg.path, Path::Part(..)));
     met.note(inner && by_distance && leg.path.up() && !last, "by distance: as the vertices run");
     met.note(inner && by_distance && !leg.path.up() && !last, "by distance: against the vertices");
+    if let Path::ByDistance(m0, m1) = leg.path {
+        met.note(inner && (m0 - m1).abs() < 1.0, "by distance: from 0.5 to 1 apart");
+        met.note(inner && plan.dists_differ(from.seq.min(to.seq)), "by distance: a sequence of two distances");
+    }
     met.note(last && by_distance && leg.path.up(), "by distance: no stretch, as the vertices run");
     met.note(last && by_distance && !leg.path.up(), "by distance: no stretch, against the vertices");
     met.note(inner && part && leg.path.up() && !last, "part: as the vertices run");
@@ -255,7 +312,27 @@ fn note_rows(met: &mut Met, plan: &Plan) {
         rows.windows(2).any(|pair| pair[0].stop_sequence > pair[1].stop_sequence),
         "rows: sequences that do not ascend",
     );
+    let shape = plan.shape().filter(|line| line.len() > 1);
+    let measured: Vec<f32> = rows.iter().filter_map(|row| row.shape_dist_traveled).collect();
+    let falls = measured.len() > 1 && measured[0] > measured[measured.len() - 1];
+    met.note(
+        shape.is_some() && falls && trip_shape_dist_affine(plan.epoch, trip).is_none(),
+        "calibration: none, for distances that fall",
+    );
     let first = plan.calls.first();
+    let is_target = |row: &PackedStopTime, first: &CallPoint| {
+        let stop = &plan.epoch.stops[row.stop_idx as usize];
+        let named = !stop.raw_id.is_empty() && first.stop_id.contains(&stop.raw_id);
+        stop.lat.is_some() && (Some(row.stop_idx) == first.stop_idx || row.stop_sequence == first.seq || named)
+    };
+    let astray = first.is_some_and(|first| !rows.iter().any(|row| is_target(row, first)));
+    let seq = first.map_or(0, |first| first.seq);
+    met.note(astray && seq > 0 && plan.ends(1).is_some(), "previous: by sequence alone");
+    met.note(astray && seq == 0 && plan.ends(1).is_some(), "previous: by sequence alone, of 0");
+    met.note(
+        astray && seq > 0 && rows.iter().any(|row| row.stop_sequence == seq),
+        "previous: by sequence alone, a row without position at it",
+    );
     met.note(
         first.is_some_and(|first| {
             rows.iter().all(|row| Some(row.stop_idx) != first.stop_idx && row.stop_sequence != first.seq)

@@ -147,11 +147,30 @@ impl<'a> Plan<'a> {
         self.run
     }
 
-    /// Along the shape by the distances of two calls, where the Rust answers so.
-    fn by_distance(&self, trip: &GlobalTrip, from: &CallPoint, to: &CallPoint) -> Option<Path> {
+    /// The distances of two calls along the shape.
+    fn metres(&self, trip: &GlobalTrip, from: &CallPoint, to: &CallPoint) -> Option<(f32, f32)> {
         let dist = |call: &CallPoint| shape_dist_for_seq(self.epoch, self.base, call.seq, Some(&self.hint));
         let (d0, d1, (a, b)) = (dist(from)?, dist(to)?, trip_shape_dist_affine(self.epoch, trip)?);
-        let (m0, m1) = ((a + b * d0 as f64) as f32, (a + b * d1 as f64) as f32);
+        Some(((a + b * d0 as f64) as f32, (a + b * d1 as f64) as f32))
+    }
+
+    /// How far apart they are, or NaN.
+    pub fn apart(&self, trip: &GlobalTrip, from: &CallPoint, to: &CallPoint) -> f64 {
+        self.metres(trip, from, to).map_or(f64::NAN, |(m0, m1)| (m0 as f64 - m1 as f64).abs())
+    }
+
+    /// Whether the static trip has two distances for a sequence.
+    pub fn dists_differ(&self, sequence: u32) -> bool {
+        let trip = self.trip.expect("a trip");
+        let rows = &self.epoch.stop_times[trip.stop_time_start as usize..][..trip.stop_time_len as usize];
+        let mut dists = rows.iter().filter(|row| row.stop_sequence == sequence).map(|row| row.shape_dist_traveled);
+        let first = dists.next();
+        dists.any(|dist| Some(dist) != first)
+    }
+
+    /// Along the shape by those distances, where the Rust answers so.
+    fn by_distance(&self, trip: &GlobalTrip, from: &CallPoint, to: &CallPoint) -> Option<Path> {
+        let (m0, m1) = self.metres(trip, from, to)?;
         let short = (m0 as f64 - m1 as f64).abs() < 0.5;
         (!short).then_some(Path::ByDistance(m0, m1))
     }
