@@ -194,6 +194,11 @@ fn note_choice(met: &mut Met, plan: &Plan, from: &CallPoint, to: &CallPoint, pat
     let both = dist(from.seq).is_some() && dist(to.seq).is_some();
     met.note(!both, "by vertices: a distance is missing");
     met.note(both && !affine, "by vertices: no calibration");
+    let placed = |row: &&PackedStopTime| plan.epoch.stops[row.stop_idx as usize].lat.is_some();
+    let measured: Vec<f32> = rows.iter().filter(placed).filter_map(|row| row.shape_dist_traveled).collect();
+    let (first, last) = (measured.first(), measured.last());
+    met.note(both && !affine && first > last, "by vertices: no calibration, for distances that fall");
+    met.note(both && !affine && first < last, "by vertices: no calibration, for lengths under 1 apart");
     met.note(both && affine, "by vertices: distances under 0.5 apart");
     let apart = both && dist(from.seq) != dist(to.seq);
     met.note(apart && affine && plan.apart(trip, from, to) > 0.1, "by vertices: distances from 0.1 to 0.5 apart");
@@ -237,7 +242,10 @@ fn note_chain(met: &mut Met, plan: &Plan, from: &CallPoint, to: &CallPoint, line
         inner && total >= 1.0 && from.seq > to.seq && line.len() > 3,
         "chain: turned round, of four points or more",
     );
-    met.note(inner && total >= 1.0 && total < 2.0, "chain: from 1 to 2 in all");
+    met.note(
+        inner && total >= 1.0 && total < 2.0 && line.len() > 2,
+        "chain: from 1 to 2 in all, of three points or more",
+    );
     met.note(inner && total >= 0.5 && total < 1.0, "chain: from 0.5 to 1 in all");
     let at = |row: &&PackedStopTime| {
         let stop = &plan.epoch.stops[row.stop_idx as usize];
@@ -245,8 +253,8 @@ fn note_chain(met: &mut Met, plan: &Plan, from: &CallPoint, to: &CallPoint, line
     };
     let points: Vec<(f64, f64)> = between.iter().filter_map(at).collect();
     met.note(
-        inner && total >= 1.0 && points.len() > 1 && from.seq < to.seq && points[0] != (from.lat, from.lon),
-        "chain: a call elsewhere than its row",
+        inner && total >= 1.0 && line.len() > 2 && from.seq < to.seq && points[0] != (from.lat, from.lon),
+        "chain: a call elsewhere than its row, of three points or more",
     );
     let apart = |a: f64, b: f64| (a - b).abs();
     met.note(
@@ -311,13 +319,6 @@ fn note_rows(met: &mut Met, plan: &Plan) {
     met.note(
         rows.windows(2).any(|pair| pair[0].stop_sequence > pair[1].stop_sequence),
         "rows: sequences that do not ascend",
-    );
-    let shape = plan.shape().filter(|line| line.len() > 1);
-    let measured: Vec<f32> = rows.iter().filter_map(|row| row.shape_dist_traveled).collect();
-    let falls = measured.len() > 1 && measured[0] > measured[measured.len() - 1];
-    met.note(
-        shape.is_some() && falls && trip_shape_dist_affine(plan.epoch, trip).is_none(),
-        "calibration: none, for distances that fall",
     );
     let first = plan.calls.first();
     let is_target = |row: &PackedStopTime, first: &CallPoint| {
