@@ -2,6 +2,7 @@
 #![allow(dead_code)]
 use std::fmt::Write;
 
+pub mod answers;
 pub mod asked;
 pub mod harm;
 pub mod lay;

@@ -19,7 +19,7 @@ mod most {
 }
 
 /// A case, and the rows of its id tables in the order of their lines.
-#[derive(Default)]
+#[derive(Clone, Default)]
 pub struct Read {
     pub case: Case,
     pub stop_rows: Vec<(String, u32)>,
@@ -105,7 +105,7 @@ fn bits(text: &str, count: usize) -> Option<u64> {
     fits.then(|| u64::from_str_radix(text, 16).ok()).flatten()
 }
 
-fn decoded(text: &str) -> Option<String> {
+pub fn decoded(text: &str) -> Option<String> {
     if text == "%" {
         return Some(String::new());
     }
