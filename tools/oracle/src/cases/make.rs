@@ -119,15 +119,19 @@ fn distances(draw: &mut Draw, ports: &[(f64, f64)]) -> Vec<Option<f32>> {
     let unit = draw.one_of(&[1.0, 1.0, 0.001, 3.28, 0.0006, 7.0, -1.0]);
     let from = draw.one_of(&[0.0, 0.0, 0.0, 100.0, -50.0]);
     let kind = draw.below(5);
-    (0..ports.len())
-        .map(|k| match kind {
-            0 => None,
-            1 if draw.below(3) == 0 => None,
-            2 if draw.below(6) == 0 => Some(draw.between(-1000.0, 100000.0) as f32),
-            _ => Some(((way(k) + from) * unit) as f32),
-        })
-        .map(|d| d.filter(|d| d.is_finite()))
-        .collect()
+    let dist = |k: usize| match kind {
+        0 => None,
+        1 if draw.below(3) == 0 => None,
+        2 if draw.below(6) == 0 => Some(draw.between(-1000.0, 100000.0) as f32),
+        _ => Some(((way(k) + from) * unit) as f32),
+    };
+    let mut all: Vec<Option<f32>> = (0..ports.len()).map(dist).map(|d| d.filter(|d| d.is_finite())).collect();
+    if all.len() > 3 && draw.below(6) == 0 {
+        // between the first and the last the distances fall
+        let last = all.len() - 1;
+        all[1..last].reverse();
+    }
+    all
 }
 
 /// The sequences of n rows.
