@@ -5,6 +5,7 @@ use super::read::{decoded, Read};
 use super::refusal::{day, off_globe, refusal};
 use super::{digits, Case, Shape, Stop, Trip};
 use crate::gtfs::pack::{PackedStopTime, StaticEpoch, TripRecord};
+use crate::gtfs::siri_trip_map::{resolve_static_trip, TripResolveHint};
 use crate::link::geo::haversine_m;
 use crate::routing::geometry::*;
 use crate::rt::estimate::bearing_deg;
@@ -142,7 +143,10 @@ fn matched(read: &Read) -> String {
         return refused(number);
     }
     let epoch = epoch(&lent.case);
-    match Plan::of(&lent.case, &epoch).trip() {
+    let first_departure_utc = lent.case.updates.first().and_then(|u| u.departure);
+    let hint = TripResolveHint { route_id: lent.case.route.clone(), first_departure_utc };
+    crate::lent::lend(lent.case.offset as i32);
+    match resolve_static_trip(&epoch, &lent.case.trip, Some(&hint)) {
         Some(trip) => {
             let row = epoch.trips.iter().position(|other| std::ptr::eq(other, trip)).expect("a trip of the table");
             format!("(trip {row})")
