@@ -1,0 +1,2 @@
+-- `Told`: what the C name makes of an answer.
+pub mod Told
