@@ -15,10 +15,13 @@
  *   libexports_timetable.a          zebumorn_match_trip, zebumorn_service_runs, zebumorn_read_date,
  *                                   zebumorn_day_of, zebumorn_weekday_of
  *   libexports_drawing.a            zebumorn_leg_geometry, zebumorn_journey_geometry
- *   libexports_backfill.a           zebumorn_backfill_trips, zebumorn_backfill_trip, zebumorn_backfill_records
+ *   libexports_backfill.a           zebumorn_backfill_trips, zebumorn_backfill_trip
+ *   libtrip_records.a               zebumorn_backfill_records
+ *   libexports_stops.a              zebumorn_project_trip, zebumorn_project_stop
+ *   libexports_line.a               zebumorn_interpolate, zebumorn_calibrate, zebumorn_snap_scale
  *   libexports_measure.a            zebumorn_haversine_m, zebumorn_bearing_deg
  *
- * `rt staticlib exports_X` proves and makes an archive; link it with -lm. */
+ * `rt staticlib NAME` proves a crate and makes libNAME.a of it; link that with -lm. */
 #ifndef ZEBUMORN_H
 #define ZEBUMORN_H
 
@@ -319,7 +322,7 @@ uint32_t zebumorn_leg_geometry(ZEBUMORN_POOLS, zebumorn_tables tables, zebumorn_
 uint32_t zebumorn_journey_geometry(ZEBUMORN_POOLS, zebumorn_journey_legs legs, double *lat, size_t lat_count,
                                    double *lon, size_t lon_count, size_t *points);
 
-/* ---- Backfill: libexports_backfill.a --------------------------------------------------------------------------- */
+/* ---- Backfill: libexports_backfill.a, libtrip_records.a ---------------------------------------------------------- */
 
 /* Writes the distance of every stop time, and 1 where it has one, after the missing ones of all trips are filled in
  * as far as they can be told. A flag that was there keeps its byte. Outputs have a row for each stop time or more;
@@ -352,15 +355,79 @@ uint32_t zebumorn_backfill_records(zebumorn_stop_time *records, size_t record_co
                                    size_t real_count, zebumorn_beside beside, uint32_t *at, size_t at_count,
                                    float *dists, size_t dist_count, uint8_t *known, size_t known_count);
 
+/* ---- Projection of stops: libexports_stops.a -------------------------------------------------------------------- */
+
+/* The vertex of a stop without a position. */
+#define ZEBUMORN_NO_VERTEX UINT32_MAX
+
+/* How many rows of the output are written; 0 where it is refused. */
+typedef struct {
+    size_t rows;
+    uint32_t refusal;
+} zebumorn_rows;
+
+/* The vertices of the trip's shape that its stops lie at, in the order of its stop times. `trip` is a column of one
+ * id; of an id that no trip has, no row is written. Lent: stops, trips, tripkeys, times, shapes, points.
+ * Refusals: 1 2 3 4 5 7 8 9. */
+zebumorn_rows zebumorn_project_trip(ZEBUMORN_POOLS, zebumorn_tables tables, zebumorn_ids trip, uint32_t *vertices,
+                                    size_t vertex_count);
+
+/* The vertex of a stop, and the cursor that the next stop is looked for from; both 0 where it is refused. */
+typedef struct {
+    size_t cursor, vertex;
+    uint32_t refusal;
+} zebumorn_step;
+
+/* The vertex of one stop on a line, from a cursor on; the first stop's cursor is 0. Refusals: 1 2 3. */
+zebumorn_step zebumorn_project_stop(const double *lat, size_t lat_count, const double *lon, size_t lon_count,
+                                    size_t cursor, double stop_lat, double stop_lon);
+
+/* ---- A line alone: libexports_line.a ----------------------------------------------------------------------------
+ * Each is lent the points of one line, and may be lent more than its question reads, or less: then there is no
+ * answer. `answered` is 1 with an answer, else it is 0, and so is all else but the refusal. Refusals: 1 2 3 8. */
+
+/* What interpolation is asked. The fraction is the first of the numbers. */
+enum {
+    ZEBUMORN_BY_DISTANCE = 1,       /* between two distances in metres */
+    ZEBUMORN_BY_FEED_DISTANCE = 2,  /* between two of a feed, calibrated: numbers are fraction, shift, scale */
+    ZEBUMORN_ALONG_LINE = 3,        /* along the whole line */
+    ZEBUMORN_BETWEEN_ENDS = 4       /* along the part of it between the vertices nearest to two ends */
+};
+
+typedef struct {
+    double lat, lon, bearing;
+    uint32_t answered, refusal;
+} zebumorn_position;
+
+/* The position at a fraction of the way. A question that is none of the four gets 1. */
+zebumorn_position zebumorn_interpolate(ZEBUMORN_POOLS, uint32_t question, zebumorn_points line, zebumorn_points ends,
+                                       zebumorn_span distances, zebumorn_span numbers);
+
+/* A feed's distance d stands for shift + scale * d metres along the line. */
+typedef struct {
+    double shift, scale;
+    uint32_t answered, refusal;
+} zebumorn_metres;
+
+/* The metres that a feed's distances stand for, by samples: each a position `at` and its distance. */
+zebumorn_metres zebumorn_calibrate(ZEBUMORN_POOLS, zebumorn_points line, zebumorn_points at, zebumorn_span dist,
+                                   zebumorn_span numbers);
+
+typedef struct {
+    double scale;
+    uint32_t answered, refusal;
+} zebumorn_scale;
+
+/* The unit (metre, kilometre, foot, mile) that a ratio, the first of the numbers, is near; else the ratio. */
+zebumorn_scale zebumorn_snap_scale(ZEBUMORN_POOLS, zebumorn_points line, zebumorn_points at, zebumorn_span dist,
+                                   zebumorn_span numbers);
+
 /* ---- Measure: libexports_measure.a ----------------------------------------------------------------------------- */
 
 /* Metres, and degrees from north, of the way between two positions in degrees, into *out, which stays as it was
  * where it is refused. Refusals: 3. */
 uint32_t zebumorn_haversine_m(double lat1, double lon1, double lat2, double lon2, double *out);
 uint32_t zebumorn_bearing_deg(double lat1, double lon1, double lat2, double lon2, double *out);
-
-/* ---- Projection, calibration and interpolation alone ------------------------------------------------------------
- * Without C names so far; the estimate, backfill and leg drawing use them. */
 
 #ifdef __cplusplus
 }
