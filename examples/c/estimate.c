@@ -25,7 +25,8 @@ int main(void) {
         .updates = {.sequence = sequences, .stop = stops, .named = set, .arrival = moments, .arrives = set,
                     .departure = moments, .departs = set, .arrdelay = moments, .arrdelayed = unset,
                     .depdelay = moments, .depdelayed = unset},
-        .sailing = {.feed = f, .key = t, .route = no_route, .routed = no, .cancelled = no, .now = now, .offset = offset},
+        .sailing = {.feed = f, .key = t, .route = no_route, .routed = no, .cancelled = no, .now = now,
+                    .offset = offset},
     };
 
     const zebumorn_answer a = zebumorn_estimate(bytes, 12, words, 10, times, 4, reals, 3, dists, 0, tables);
@@ -34,7 +35,8 @@ int main(void) {
     } else if (!a.answered) {
         printf("silence\n");
     } else {
-        printf("call %u, stop %u, status %u: latitude %g, longitude %g", a.sequence, (unsigned)a.stop, a.status, a.lat, a.lon);
+        printf("call %u, stop %u, status %u: ", a.sequence, (unsigned)a.stop, a.status);
+        printf("latitude %g, longitude %g", a.lat, a.lon);
         if (a.bears) printf(", bearing %g", a.bearing);
         printf("\n");
     }
