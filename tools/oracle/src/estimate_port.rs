@@ -1,6 +1,34 @@
-//! The port's side of the estimate: the function of target/staticlib/liboracle_estimate.a.
+//! The port's side of the estimate: the function of target/staticlib/libexports_estimate.a.
 use crate::cases::lay::{Laid, Tables};
 use crate::cases::{digits, token, Case};
+
+/// Where an estimate is; include/zebumorn.h says what its numbers are.
+#[derive(Clone, Copy)]
+#[repr(C)]
+pub struct Place {
+    pub fraction: f64,
+    pub vertex: u64,
+    pub kind: u32,
+    pub number: u32,
+    pub line: u32,
+    pub way: u32,
+}
+
+/// What the estimate answers.
+#[derive(Clone, Copy)]
+#[repr(C)]
+pub struct Estimated {
+    pub lat: f64,
+    pub lon: f64,
+    pub bearing: f64,
+    pub stop: u64,
+    pub sequence: u32,
+    pub status: u32,
+    pub bears: u32,
+    pub answered: u32,
+    pub refusal: u32,
+    pub place: Place,
+}
 
 extern "C" {
     fn zebumorn_estimate(
@@ -15,27 +43,7 @@ extern "C" {
         dists: *const f32,
         dist_count: usize,
         t: Tables,
-        lat: &mut f64,
-        lon: &mut f64,
-        bearing: &mut f64,
-        bears: &mut bool,
-        status: &mut u32,
-        stop: &mut usize,
-        sequence: &mut u32,
-    ) -> u32;
-}
-
-/// What the estimate answers. The status is 0 with silence.
-#[derive(Default)]
-pub struct Estimated {
-    pub refusal: u32,
-    pub lat: f64,
-    pub lon: f64,
-    pub bearing: f64,
-    pub bears: bool,
-    pub status: u32,
-    pub stop: usize,
-    pub sequence: u32,
+    ) -> Estimated;
 }
 
 /// The statuses by their numbers, from 1.
@@ -48,8 +56,7 @@ const STATUSES: [&str; 5] = [
 ];
 
 pub fn estimate(laid: &Laid) -> Estimated {
-    let mut e = Estimated::default();
-    e.refusal = unsafe {
+    unsafe {
         zebumorn_estimate(
             laid.bytes.as_ptr(),
             laid.bytes.len(),
@@ -62,16 +69,8 @@ pub fn estimate(laid: &Laid) -> Estimated {
             laid.dists.as_ptr(),
             laid.dists.len(),
             laid.columns,
-            &mut e.lat,
-            &mut e.lon,
-            &mut e.bearing,
-            &mut e.bears,
-            &mut e.status,
-            &mut e.stop,
-            &mut e.sequence,
         )
-    };
-    e
+    }
 }
 
 /// The line that the Board prints of it.
@@ -79,10 +78,10 @@ pub fn line(e: &Estimated, case: &Case) -> String {
     if e.refusal != 0 {
         return format!("(refused {})", e.refusal);
     }
-    if e.status == 0 {
+    if e.answered == 0 {
         return "(none)".into();
     }
-    let bearing = if e.bears { digits(e.bearing) } else { "-".into() };
-    let (stop, status) = (token(&case.stops[e.stop].id), STATUSES[e.status as usize - 1]);
+    let bearing = if e.bears != 0 { digits(e.bearing) } else { "-".into() };
+    let (stop, status) = (token(&case.stops[e.stop as usize].id), STATUSES[e.status as usize - 1]);
     format!("(at {} {stop} {status} {} {} {bearing})", e.sequence, digits(e.lat), digits(e.lon))
 }
