@@ -1,7 +1,7 @@
 use Rattle.tables.proofs.Folds.{over, then, then-rules}
-use Rattle.checks.specs.Operations.{legCauses}
-use Rattle.checks.proofs.check.check_leg.Statement.{statement}
-use Rattle.checks.proofs.check.check_leg.Tie as tie
+use Rattle.geometry_checks.specs.Operations.{legCauses}
+use Rattle.geometry_checks.proofs.check.check_leg.Statement.{statement}
+use Rattle.geometry_checks.proofs.check.check_leg.Tie as tie
 
 check-geometry-requires : tie.Need-check-geometry-requires
 check-geometry-requires c κs = tt

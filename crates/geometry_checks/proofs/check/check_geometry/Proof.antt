@@ -1,7 +1,7 @@
 use Rattle.tables.proofs.Folds.{over, then-rules}
-use Rattle.checks.specs.Operations.{geometryCauses}
-use Rattle.checks.proofs.check.check_geometry.Statement.{statement}
-use Rattle.checks.proofs.check.check_geometry.Tie as tie
+use Rattle.geometry_checks.specs.Operations.{geometryCauses}
+use Rattle.geometry_checks.proofs.check.check_geometry.Statement.{statement}
+use Rattle.geometry_checks.proofs.check.check_geometry.Tie as tie
 
 stops-requires : tie.Need-stops-requires
 stops-requires c κs = tt
