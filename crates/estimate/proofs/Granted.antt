@@ -20,9 +20,9 @@ use Rattle.timeline_order.proofs.Says.{Says, turn-says}
 use Rattle.calls.specs.Calls.{reportedOf, callRows}
 use Rattle.calls.specs.Calls.{Ready as Reportable}
 use Rattle.calls.proofs.Calls.{calls-few}
-use Rattle.calls.specs.Updates.{firstDeparture}
+use Rattle.update_rows.specs.Updates.{firstDeparture}
 use Rattle.sailings.specs.Sailing.{offsetOf, localAt, InTime, sailingTrip}
-use Rattle.walks.specs.Leg.{legCount}
+use Rattle.leg_paths.specs.Leg.{legCount}
 use Rattle.estimate_facts.proofs.Asked.{trip-ready, calls-ready, updates-few, first-in-time, first-in-reach}
 use Rattle.estimate_facts.proofs.Trips.{sailing-trip-is, trip-rows, rows-few}
 use Rattle.estimate.specs.Plan.{courseOf}

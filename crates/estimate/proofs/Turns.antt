@@ -13,7 +13,7 @@ use Rattle.previous.specs.Before.{prevRow}
 use Rattle.legs.specs.declared.path.End.{End}
 use Rattle.timeline.specs.Turn.{timeAt, turnOf}
 use Rattle.calls.specs.Calls.{reportedOf, callRows, callStops, callArrivals, callDepartures}
-use Rattle.calls.specs.Updates.{bestRow, arrivalOf, departureOf}
+use Rattle.update_rows.specs.Updates.{bestRow, arrivalOf, departureOf}
 use Rattle.sailings.specs.Sailing.{isCancelled, clockOf, sailingTrip}
 use Rattle.voyages.specs.Outcome.{atPin, approaching, towardsAt, atTurn, outcomeAt}
 use Rattle.voyages.specs.declared.record.Outcome.the-variants.{Silence}

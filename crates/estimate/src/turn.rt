@@ -32,7 +32,7 @@ ghost use Rattle.checks.specs.Operations.{estimateCauses};
 ghost use Rattle.sailings.specs.Sailing.{sailingTrip};
 ghost use Rattle.timeline.specs.Turn.{timeAt};
 ghost use Rattle.timeline.specs.Turn.{turnOf};
-ghost use Rattle.walks.specs.Leg.{legCount};
+ghost use Rattle.leg_paths.specs.Leg.{legCount};
 ghost use Rattle.voyages.specs.Outcome.{approachStatus, approaching, underWayAt, towardsAt, atTurn};
 ghost use Rattle.estimate.specs.Plan.{courseOf, rowEnd, callEnd, approachFrom, approachTo, voyageFrom};
 
