@@ -1,12 +1,12 @@
 // The estimate.
-use crate::pin::pin;
-use crate::pin::reported;
-use crate::turn::at_turn;
 use calls::collect;
 use calls::fill_arrivals;
 use calls::fill_departures;
 use checks::check_estimate;
 use legs::Place;
+use plans::at_turn;
+use plans::pin;
+use plans::reported;
 use sailings::clock;
 use sailings::is_cancelled;
 use tables::Bounds;
@@ -14,16 +14,14 @@ use tables::Tables;
 use voyages::Estimate;
 use voyages::Outcome;
 ghost use mathlib.Core.Path.{_≡_};
-ghost use Prim.Native.Nat.{_≤_};
-ghost use lib.ListN.{length};
 ghost use Rattle.tables.specs.Pools.{pools};
 ghost use Rattle.tables.specs.Refuse.{chartBounds, refusalOf};
 ghost use Rattle.checks.specs.Operations.{estimateCauses};
 ghost use Rattle.calls.specs.Calls.{reportedOf, callRows, callStops};
 ghost use Rattle.sailings.specs.Sailing.{clockOf};
 ghost use Rattle.voyages.specs.Outcome.{outcomeAt};
-ghost use Rattle.estimate.specs.Plan.{voyageOf, calledOf};
-ghost use Rattle.estimate.specs.Answers.{estimateAnswer, estimateOf};
+ghost use Rattle.plans.specs.Plan.{voyageOf};
+ghost use Rattle.estimate.specs.Answers.{estimateAnswer, estimateOf, calledOf};
 
 // What an estimate answers.
 pub enum Estimated {
@@ -94,7 +92,16 @@ fn outcome(
     if n == 0 {
         return pin(bytes, words, reals, t);
     }
-    called(bytes, words, times, reals, dists, t, &rows[..n], &stops[..n])
+    called(
+        bytes,
+        words,
+        times,
+        reals,
+        dists,
+        t,
+        &rows[..n],
+        &stops[..n],
+    )
 }
 
 // The estimate of the lent tables, or the first refusal that applies.

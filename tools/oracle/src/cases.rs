@@ -2,8 +2,19 @@
 #![allow(dead_code)]
 use std::fmt::Write;
 
+pub mod answers;
 pub mod asked;
+pub mod harm;
+pub mod lay;
+pub mod limits;
 pub mod make;
+pub mod meets;
+pub mod place;
+pub mod plan;
+pub mod queries;
+pub mod read;
+pub mod refusal;
+pub mod told;
 
 #[derive(Clone, Default)]
 pub struct Update {
@@ -50,6 +61,21 @@ pub struct Range {
     pub weekdays: u8,
 }
 
+#[derive(Clone)]
+pub struct Exception {
+    pub feed: String,
+    pub service: String,
+    pub date: u32,
+    pub removed: bool,
+}
+
+#[derive(Clone)]
+pub struct Shape {
+    pub id: String,
+    pub points: Vec<(f64, f64)>,
+}
+
+/// Ids have a character for each byte.
 #[derive(Clone, Default)]
 pub struct Case {
     pub feed: String,
@@ -65,11 +91,14 @@ pub struct Case {
     pub trips: Vec<Trip>,
     /// ids of trips beside their own
     pub trip_keys: Vec<(String, u32)>,
-    pub shapes: Vec<Vec<(f64, f64)>>,
+    pub shapes: Vec<Shape>,
     pub aliases: Vec<(String, String)>,
     pub lines: Vec<(String, u32)>,
     pub calendars: Vec<String>,
     pub ranges: Vec<Range>,
+    pub exceptions: Vec<Exception>,
+    /// for the probe alone
+    pub queries: Vec<String>,
 }
 
 /// An id as a token: '%', a space and the parentheses by their digits.
@@ -145,9 +174,9 @@ impl Case {
     }
 
     fn other_lines(&self, text: &mut String) {
-        for (k, shape) in self.shapes.iter().enumerate() {
-            writeln!(text, "(shape s{k})").unwrap();
-            for &(lat, lon) in shape {
+        for shape in &self.shapes {
+            writeln!(text, "(shape {})", token(&shape.id)).unwrap();
+            for &(lat, lon) in &shape.points {
                 writeln!(text, "(point {} {})", digits(lat), digits(lon)).unwrap();
             }
         }
@@ -163,6 +192,13 @@ impl Case {
         for r in &self.ranges {
             let days: String = (0..7).map(|day| if r.weekdays >> day & 1 == 1 { '1' } else { '0' }).collect();
             writeln!(text, "(range {} {} {} {} {days})", token(&r.feed), token(&r.service), r.first, r.last).unwrap();
+        }
+        for e in &self.exceptions {
+            let kind = if e.removed { "removed" } else { "added" };
+            writeln!(text, "(exception {} {} {} {kind})", token(&e.feed), token(&e.service), e.date).unwrap();
+        }
+        for query in &self.queries {
+            writeln!(text, "{query}").unwrap();
         }
     }
 

@@ -5,58 +5,104 @@ mod cases;
 #[allow(dead_code)]
 mod draw;
 mod lent;
+mod met;
+mod program;
 mod standin;
 
 include!(env!("ORACLE_TAKEN"));
 
+use cases::plan::Plan;
+use cases::{asked, digits, make, meets};
+use met::Met;
+use program::Program;
 use std::collections::BTreeMap;
-use std::io::Write;
-use std::process::{Command, Stdio};
 
-/// What a program writes, given this.
-fn answer(program: &str, text: &str) -> String {
-    let mut child = Command::new(program).stdin(Stdio::piped()).stdout(Stdio::piped()).stderr(Stdio::null()).spawn().expect("the program starts");
-    // A program that ends early is told by its answer.
-    let _ = child.stdin.take().expect("its input").write_all(text.as_bytes());
-    let out = child.wait_with_output().expect("it ends");
-    String::from_utf8_lossy(&out.stdout).trim_end().to_string()
-}
+/// Cases that are asked at once, and how many that differ are shown.
+const AT_ONCE: usize = 2000;
+const SHOWN: u64 = 3;
 
 /// The status that a line has, or the line.
 fn kind(line: &str) -> String {
     line.split(' ').nth(3).unwrap_or(line).into()
 }
 
-fn main() {
-    let words: Vec<String> = std::env::args().collect();
-    let count: u64 = words[2].parse().expect("a count");
-    let mut draw = draw::Draw::new(9);
-    let (mut asked, mut differ) = (0, 0);
-    let mut kinds: BTreeMap<String, u64> = BTreeMap::new();
-    while asked < count {
-        let mut case = cases::make::case(&mut draw);
-        let epoch = cases::asked::epoch(&case);
-        for now in cases::make::clocks(&mut draw, &case) {
-            case.now = now;
-            let rust = cases::asked::board(&case, &epoch);
-            *kinds.entry(kind(&rust)).or_default() += 1;
-            asked += 1;
-            if words[1] == "-" {
-                continue;
-            }
-            let text = case.text();
-            let port = answer(&words[1], &text);
-            if port != rust {
+/// Whether the coordinates in a line are those.
+fn has(line: &str, at: (f64, f64)) -> bool {
+    let words: Vec<&str> = line.split(' ').collect();
+    words.len() > 5 && words[4] == digits(at.0) && words[5] == digits(at.1)
+}
+
+/// What is to be asked, and the Rust's lines.
+#[derive(Default)]
+struct Asked {
+    texts: Vec<Vec<u8>>,
+    lines: Vec<String>,
+}
+
+impl Asked {
+    /// Asks all, shows the first that differ, and returns how many do.
+    fn differ(&mut self, program: &Program, before: u64) -> u64 {
+        let mut differ = 0;
+        for (k, port) in program.answers(&self.texts).into_iter().enumerate() {
+            if port != self.lines[k] {
                 differ += 1;
-                if differ <= 3 {
-                    println!("the Rust: {rust}\nthe Board: {port}\n{text}");
+                if before + differ <= SHOWN {
+                    let text = String::from_utf8_lossy(&self.texts[k]);
+                    println!("the Rust: {}\nthe Board: {port}\n{text}", self.lines[k]);
                 }
             }
         }
+        *self = Asked::default();
+        differ
     }
-    println!("{asked} clocks, {differ} differ");
+}
+
+fn main() {
+    let words: Vec<String> = std::env::args().collect();
+    let count: u64 = words[2].parse().expect("a count");
+    let program = Program::named(&words[1]);
+    let mut draw = draw::Draw::new(9);
+    let (mut clocks, mut all, mut differ, mut astray) = (0, 0, 0, 0);
+    let (mut kinds, mut met): (BTreeMap<String, u64>, Met) = Default::default();
+    let mut asked = Asked::default();
+    while clocks < count {
+        let mut case = make::case(&mut draw);
+        all += 1;
+        let epoch = asked::epoch(&case);
+        let clock_list = make::clocks(&mut draw, &case);
+        let mut lines = vec![];
+        for &now in &clock_list {
+            case.now = now;
+            lines.push(asked::board(&case, &epoch));
+            asked.texts.push(case.text().into_bytes());
+        }
+        let plan = Plan::of(&case, &epoch);
+        for (&now, line) in clock_list.iter().zip(&lines) {
+            let place = plan.place(now);
+            meets::note(&mut met, &plan, now, place);
+            astray += (place
+                .map(|place| place.coordinates(&plan))
+                .map_or(line != "(none)", |at| !has(line, at.expect("coordinates")))) as u64;
+            *kinds.entry(kind(line)).or_default() += 1;
+        }
+        clocks += lines.len() as u64;
+        asked.lines.extend(lines);
+        match &program {
+            Some(program) if asked.lines.len() >= AT_ONCE || clocks >= count => differ += asked.differ(program, differ),
+            Some(_) => {}
+            None => asked = Asked::default(),
+        }
+    }
+    println!(
+        "{clocks} clocks of {all} cases, {differ} differ; {astray} estimates of the Rust are not where their place is"
+    );
     for (kind, count) in kinds {
-        println!("  {kind}: {count}");
+        println!("    {kind:<72} {count:>9}");
     }
-    std::process::exit((differ > 0) as i32);
+    println!("met:");
+    met.print();
+    if met.lacks(1) {
+        println!("something was not met");
+    }
+    std::process::exit((differ + astray > 0) as i32);
 }

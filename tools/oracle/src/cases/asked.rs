@@ -10,7 +10,7 @@ use chrono::NaiveDate;
 use std::collections::HashMap;
 use std::sync::Arc;
 
-fn date(digits: u32) -> NaiveDate {
+pub fn date(digits: u32) -> NaiveDate {
     NaiveDate::from_ymd_opt((digits / 10_000) as i32, digits / 100 % 100, digits % 100).expect("a case has dates only")
 }
 
@@ -24,6 +24,11 @@ fn calendars(case: &Case) -> HashMap<String, Arc<ServiceCalendar>> {
             calendar.add_regular(r.service.clone(), first, last, on(0), on(1), on(2), on(3), on(4), on(5), on(6));
         }
     }
+    for e in &case.exceptions {
+        if let Some(calendar) = all.get_mut(&e.feed) {
+            calendar.add_exception(e.service.clone(), date(e.date), if e.removed { 2 } else { 1 });
+        }
+    }
     all.into_iter().map(|(feed, calendar)| (feed, Arc::new(calendar))).collect()
 }
 
@@ -35,7 +40,7 @@ pub fn epoch(case: &Case) -> StaticEpoch {
             id: trip.id.clone(),
             feed_id: trip.feed.clone(),
             service_id: trip.service.clone(),
-            shape_id: trip.shape.map(|k| format!("s{k}")),
+            shape_id: trip.shape.map(|k| case.shapes[k as usize].id.clone()),
             stop_time_start: stop_times.len() as u32,
             stop_time_len: trip.calls.len() as u32,
             frequency_windows: if trip.frequency { vec![FrequencyWindow] } else { vec![] },
@@ -75,14 +80,14 @@ pub fn epoch(case: &Case) -> StaticEpoch {
         trip_id_to_idx: own(case.trips.iter().map(|trip| trip.id.clone()).collect(), &case.trip_keys),
         trips,
         stop_times,
-        shapes: case.shapes.iter().enumerate().map(|(k, shape)| (format!("s{k}"), shape.clone())).collect(),
+        shapes: case.shapes.iter().map(|shape| (shape.id.clone(), shape.points.clone())).collect(),
         calendars: calendars(case),
         siri_trip_aliases,
         route_line_to_trip_idxs,
     }
 }
 
-fn sailing(case: &Case) -> TripRt {
+pub fn sailing(case: &Case) -> TripRt {
     let updates = case.updates.iter().map(|u| {
         let update = StopTimeRt {
             stop_sequence: u.sequence,
@@ -99,7 +104,8 @@ fn sailing(case: &Case) -> TripRt {
 
 fn line(at: &VehiclePos) -> String {
     let bearing = at.bearing.map_or("-".into(), digits);
-    let (sequence, stop) = (at.current_stop_sequence.expect("a sequence"), at.current_stop_id.as_ref().expect("a stop"));
+    let (sequence, stop) =
+        (at.current_stop_sequence.expect("a sequence"), at.current_stop_id.as_ref().expect("a stop"));
     let status = at.current_status.as_ref().expect("a status");
     format!("(at {sequence} {} {status} {} {} {bearing})", token(stop), digits(at.lat), digits(at.lon))
 }
