@@ -27,8 +27,9 @@ const TIMES: u64 = 3;
 const LOOKED_THROUGH: u64 = 20_000;
 const LONGEST: [usize; 3] = [600, 1_200, 1_000_000];
 
-/// Cases by hand: document 01's own; and a call whose stop is on no row, with a row of its sequence that has no position and a lower sequence after it.
-const BY_HAND: [&str; 2] = [
+/// Cases by hand: document 01's own; a call whose stop is on no row, with a row of its sequence that has no position and a lower sequence after it; the end of a
+/// leg of one second, to a call that departs before it arrives.
+const BY_HAND: [&str; 3] = [
     "(feed f)
 (trip t)
 (now 250)
@@ -47,6 +48,14 @@ const BY_HAND: [&str; 2] = [
 (static t f s)
 (call 5 2 0 0)
 (call 3 1 100 100)
+",
+    "(feed f)
+(trip t)
+(now 101)
+(update 1 f:a (arr 100) (dep 100))
+(update 2 f:b (arr 101) (dep 50))
+(stop f:a 0000000000000000 0000000000000000)
+(stop f:b 0000000000000000 3ff0000000000000)
 ",
 ];
 
