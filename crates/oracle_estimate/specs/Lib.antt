@@ -1,2 +1,0 @@
--- `Told`: what the C name makes of an answer.
-pub mod Told
