@@ -1,45 +1,19 @@
--- What the trip of a sailing comes to where nothing is refused: its rows are few, and it may be matched. Assumes nothing.
-use Prim.Native.Nat.{ℕ, _+_, _<_, _≤_}
+-- The calls of a sailing where nothing is refused: their stops may be looked up, and they are few. Assumes nothing.
+use Prim.Native.Nat.{ℕ, _≤_}
 use native.Mathlib.Omega.{arith}
-use mathlib.Core.Path.{_≡_, refl, subst}
+use mathlib.Core.Path.{_≡_, refl}
 use mathlib.Core.List.{List}
 use lib.ListN.{length}
-use Rattle.ids.specs.declared.lookup.Found.{Found}
-use Rattle.ids.specs.declared.lookup.Found.the-variants.{At, Nothing}
 use Rattle.tables.specs.Pools.{Pools}
 use Rattle.tables.specs.Refuse.{chartBounds, refusalOf}
 use Rattle.tables.specs.declared.lent.Tables.{Tables}
 use Rattle.checks.specs.Operations.{estimateCauses}
-use Rattle.matching.specs.Matching.{Ready}
-use Rattle.matching.specs.Moments.{InReach}
-use Rattle.timetable.specs.Timetable.{namedOf, planOf}
-use Rattle.timeline.specs.Turn.{turnOf}
-use Rattle.timeline.specs.declared.turn.Turn.{Turn}
-use Rattle.timeline.specs.declared.turn.Turn.the-variants.{At as Alongside, Between}
-use Rattle.timeline_order.proofs.Says.{Says, turn-says}
 use Rattle.calls.specs.Calls.{reportedOf, callRows}
 use Rattle.calls.specs.Calls.{Ready as Reportable}
 use Rattle.calls.proofs.Calls.{calls-few}
-use Rattle.calls.specs.Updates.{firstDeparture}
-use Rattle.sailings.specs.Sailing.{offsetOf, localAt, InTime, sailingTrip}
-use Rattle.walks.specs.Leg.{legCount}
-use Rattle.estimate_facts.proofs.Asked.{trip-ready, calls-ready, updates-few, first-in-time, first-in-reach}
-use Rattle.estimate_facts.proofs.Trips.{sailing-trip-is, trip-rows, rows-few}
-use Rattle.estimate.specs.Plan.{courseOf}
+use Rattle.estimate_facts.proofs.Asked.{calls-ready, updates-few}
 
 module _ (p : Pools) (t : Tables) (e : refusalOf p (estimateCauses chartBounds t) ≡ 0) where
-  -- it may be matched
-  pub matchable : Ready (p .bytes) (p .words) (namedOf t) (planOf t) × (InTime (firstDeparture (p .bytes) (t .updates) (p .times)) × InReach (localAt (firstDeparture (p .bytes) (t .updates) (p .times)) (offsetOf (p .times) (t .sailing))))
-  matchable = (trip-ready p t e, (first-in-time p t e, first-in-reach p t e))
-
-  few : (trip : Found) → sailingTrip (p .bytes) (p .words) (p .times) t ≡ trip → legCount (p .words) (courseOf t) trip ≤ 1000000
-  few (At k) f = omega (arith, trip-rows p t e k (sailing-trip-is p t e k f), rows-few p t e)
-  few Nothing f = omega arith
-
-  -- its rows are no more than a million
-  pub leg-few : (trip : Found) → trip ≡ sailingTrip (p .bytes) (p .words) (p .times) t → legCount (p .words) (courseOf t) trip ≤ 1000000
-  leg-few trip f = rw f (few (sailingTrip (p .bytes) (p .words) (p .times) t) refl)
-
   -- what stops are found in is in order, and the updates are no more than the rows of the columns for calls
   pub collectable : Reportable (p .bytes) (p .words) (reportedOf t) × ((t .updates .sequence .n ≤ 256) × (t .updates .sequence .n ≤ 256))
   collectable = (calls-ready p t e, (updates-few p t e, updates-few p t e))
@@ -50,11 +24,3 @@ module _ (p : Pools) (t : Tables) (e : refusalOf p (estimateCauses chartBounds t
 
   pub count-fits : (n : ℕ) → n ≡ length (callRows (p .bytes) (p .words) (reportedOf t)) → n ≤ 256
   count-fits n f = rw f (calls-fit (callRows (p .bytes) (p .words) (reportedOf t)) refl)
-
--- the call of a turn is one of the calls
-module _ (clock : ℕ) (arrs deps : List ℕ) (k : ℕ) where
-  pub at-below : turnOf clock arrs deps ≡ Alongside k → k < length arrs
-  at-below f = (subst (λ (u : Turn). Says clock arrs deps u) f (turn-says clock arrs deps)) .0
-
-  pub between-below : turnOf clock arrs deps ≡ Between k → k + 1 < length arrs
-  between-below f = (subst (λ (u : Turn). Says clock arrs deps u) f (turn-says clock arrs deps)) .0

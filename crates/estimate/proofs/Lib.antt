@@ -1,5 +1,3 @@
--- `Granted`: what may be taken for granted where nothing is refused. `Best`: the row that serves best. `Approach`: a leg's parts. `Turns`: a turn's, and the whole.
+-- `Granted`: what may be taken for granted of the calls where nothing is refused. `Outcomes`: what the estimate comes to, of what its callees ensure.
 pub mod Granted
-pub mod Best
-pub mod Approach
-pub mod Turns
+pub mod Outcomes

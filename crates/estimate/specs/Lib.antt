@@ -1,3 +1,2 @@
--- `Plan`: the voyage that the lent tables come to, without the clock. `Answers`: the estimate as an operation, with its refusals.
-pub mod Plan
+-- The estimate as an operation, with its refusals.
 pub mod Answers

@@ -1,24 +1,36 @@
-// The estimate of tables that are not refused.
-use crate::pin::pin;
-use crate::pin::reported;
-use crate::turn::at_turn;
+// The estimate.
 use calls::collect;
 use calls::fill_arrivals;
 use calls::fill_departures;
+use checks::check_estimate;
+use legs::Place;
+use plans::at_turn;
+use plans::pin;
+use plans::reported;
 use sailings::clock;
 use sailings::is_cancelled;
+use tables::Bounds;
 use tables::Tables;
+use voyages::Estimate;
 use voyages::Outcome;
 ghost use mathlib.Core.Path.{_≡_};
-ghost use Prim.Native.Nat.{_≤_};
-ghost use lib.ListN.{length};
 ghost use Rattle.tables.specs.Pools.{pools};
 ghost use Rattle.tables.specs.Refuse.{chartBounds, refusalOf};
 ghost use Rattle.checks.specs.Operations.{estimateCauses};
 ghost use Rattle.calls.specs.Calls.{reportedOf, callRows, callStops};
 ghost use Rattle.sailings.specs.Sailing.{clockOf};
 ghost use Rattle.voyages.specs.Outcome.{outcomeAt};
-ghost use Rattle.estimate.specs.Plan.{voyageOf, calledOf};
+ghost use Rattle.plans.specs.Plan.{voyageOf};
+ghost use Rattle.estimate.specs.Answers.{estimateAnswer, estimateOf, calledOf};
+
+// What an estimate answers.
+pub enum Estimated {
+    // the estimate, and the place that its coordinates are drawn from
+    At(Estimate, Place),
+    Silence,
+    // the number of the refusal
+    Refused(u32),
+}
 
 // With these calls, one or more.
 fn called(
@@ -58,8 +70,8 @@ fn called(
     )
 }
 
-// Where the ferry is, how that was found and the place that it is drawn from; or silence.
-pub fn outcome(
+// The outcome of tables that are not refused.
+fn outcome(
     bytes: &[u8],
     words: &[u32],
     times: &[i64],
@@ -90,4 +102,25 @@ pub fn outcome(
         &rows[..n],
         &stops[..n],
     )
+}
+
+// The estimate of the lent tables, or the first refusal that applies.
+pub fn estimate(
+    bytes: &[u8],
+    words: &[u32],
+    times: &[i64],
+    reals: &[f64],
+    dists: &[f32],
+    t: Tables,
+) -> Estimated
+    ensures { λ r. ⌜ estimateAnswer r ≡ estimateOf (pools (now (bytes .entry)) (now (words .entry)) (now (times .entry)) (now (reals .entry)) (now (dists .entry))) t ⌝ }
+{
+    let refusal = check_estimate(bytes, words, times, reals, dists, Bounds::chart(), t);
+    if refusal != 0 {
+        return Estimated::Refused(refusal);
+    }
+    match outcome(bytes, words, times, reals, dists, t) {
+        Outcome::At(estimate, place) => Estimated::At(estimate, place),
+        Outcome::Silence => Estimated::Silence,
+    }
 }

@@ -86,6 +86,16 @@ module _ (p : Pools) (t : Tables) (e : refusalOf p (estimateCauses chartBounds t
       moment-most p always (counted p (drop 14 (sailingCauses chartBounds (t .sailing))) (clear-drop p (sailingCauses chartBounds (t .sailing)) (held .sailing) 14) .0)
       (now-between p chartBounds (t .sailing) (held .sailing)) 0 (omega arith) (all-count p always refl 0)
 
+  -- the columns of times have a row for each update, and the offset has one
+  pub arrivals-sized : t .updates .arrival .n ≡ t .updates .sequence .n
+  arrivals-sized = counted p (arrivalsCauses (t .updates)) (held .arrivals) .0 .many
+
+  pub departures-sized : t .updates .departure .n ≡ t .updates .sequence .n
+  departures-sized = counted p (updateDeparturesCauses (t .updates)) (held .departures) .0 .many
+
+  pub offset-sized : t .sailing .offset .n ≡ 1
+  offset-sized = counted p (drop 15 (sailingCauses chartBounds (t .sailing))) (clear-drop p (sailingCauses chartBounds (t .sailing)) (held .sailing) 15) .0 .many
+
   arrival-by : (k : ℕ) → k < t .updates .sequence .n → isSet (p .bytes) (t .updates .arrives) k ≡ true → momentAt (p .times) (t .updates .arrival) k ≤ 4102444799
   arrival-by k l s =
       let c = counted p (arrivalsCauses (t .updates)) (held .arrivals) in

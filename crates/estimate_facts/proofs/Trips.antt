@@ -37,7 +37,7 @@ use Rattle.sailings.specs.Sailing.{tripFrom, sailingTrip}
 use Rattle.estimate_facts.proofs.Columns.{cell-below, range-within, record-below}
 
 -- the points of one column of a line are no more than its span says
-column-few : (reals : List Float) (column points : Span) → length (shapeColumn reals column points) ≤ points .n
+pub column-few : (reals : List Float) (column points : Span) → length (shapeColumn reals column points) ≤ points .n
 unfolding shapeColumn
 column-few reals column points = simp length-take (omega arith)
 

@@ -7,7 +7,7 @@ use lib.ListN.{length, length-take}
 use lib.Seq.{length-take-le}
 use Rattle.tables.specs.Pools.{Pools, pools}
 use Rattle.estimate.proofs.Granted.{calls-fit}
-use Rattle.estimate.proofs.Turns.{called-is, arrivals-written, departures-written}
+use Rattle.estimate.proofs.Outcomes.{called-is, arrivals-written, departures-written}
 use Rattle.estimate.proofs.operation.called.Statement.{statement}
 use Rattle.estimate.proofs.operation.called.Tie as tie
 

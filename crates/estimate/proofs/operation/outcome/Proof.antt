@@ -9,7 +9,7 @@ use Rattle.tables.specs.Pools.{Pools, pools}
 use Rattle.calls.specs.Calls.{reportedOf, callRows}
 use Rattle.calls.proofs.Calls.{stops-count}
 use Rattle.estimate.proofs.Granted.{collectable, count-fits}
-use Rattle.estimate.proofs.Turns.{first-written, outcome-cancelled, outcome-pinned, outcome-called}
+use Rattle.estimate.proofs.Outcomes.{first-written, outcome-cancelled, outcome-pinned, outcome-called}
 use Rattle.estimate.proofs.operation.outcome.Statement.{statement}
 use Rattle.estimate.proofs.operation.outcome.Tie as tie
 

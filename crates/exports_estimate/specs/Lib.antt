@@ -1,0 +1,2 @@
+-- `Told`: an estimate's answer as numbers.
+pub mod Told

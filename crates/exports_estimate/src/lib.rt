@@ -1,0 +1,26 @@
+// The C name of the estimate. It answers what `estimate::estimate` does, as one struct of numbers; nothing that is lent is written.
+mod answer; // answer.rt: an answer as numbers
+
+pub use answer::PlaceTold;
+pub use answer::Told;
+use answer::tell;
+use estimate::estimate;
+use tables::Tables;
+ghost use mathlib.Core.Path.{_≡_};
+ghost use Rattle.tables.specs.Pools.{pools};
+ghost use Rattle.estimate.specs.Answers.{estimateOf};
+ghost use Rattle.exports_estimate.specs.Told.{toldOf};
+
+#[no_mangle]
+pub extern "C" fn zebumorn_estimate(
+    bytes: &[u8],
+    words: &[u32],
+    times: &[i64],
+    reals: &[f64],
+    dists: &[f32],
+    t: Tables,
+) -> Told
+    ensures { λ r. ⌜ r ≡ toldOf (estimateOf (pools (now (bytes .entry)) (now (words .entry)) (now (times .entry)) (now (reals .entry)) (now (dists .entry))) t) ⌝ }
+{
+    tell(estimate(bytes, words, times, reals, dists, t))
+}
