@@ -1,6 +1,31 @@
-//! The port's side of the estimate: the function of target/staticlib/liboracle_estimate.a.
+//! The port's side of the estimate: the function of target/staticlib/libexports_estimate.a, as crates/exports_estimate has it.
 use crate::cases::lay::{Laid, Tables};
+use crate::cases::place::{Kind, Place};
 use crate::cases::{digits, token, Case};
+
+#[repr(C)]
+pub struct PlaceTold {
+    pub fraction: f64,
+    pub vertex: u64,
+    pub kind: u32,
+    pub number: u32,
+    pub line: u32,
+    pub way: u32,
+}
+
+#[repr(C)]
+pub struct Told {
+    pub lat: f64,
+    pub lon: f64,
+    pub bearing: f64,
+    pub stop: u64,
+    pub sequence: u32,
+    pub status: u32,
+    pub bears: u32,
+    pub answered: u32,
+    pub refusal: u32,
+    pub place: PlaceTold,
+}
 
 extern "C" {
     fn zebumorn_estimate(
@@ -15,27 +40,7 @@ extern "C" {
         dists: *const f32,
         dist_count: usize,
         t: Tables,
-        lat: &mut f64,
-        lon: &mut f64,
-        bearing: &mut f64,
-        bears: &mut bool,
-        status: &mut u32,
-        stop: &mut usize,
-        sequence: &mut u32,
-    ) -> u32;
-}
-
-/// What the estimate answers. The status is 0 with silence.
-#[derive(Default)]
-pub struct Estimated {
-    pub refusal: u32,
-    pub lat: f64,
-    pub lon: f64,
-    pub bearing: f64,
-    pub bears: bool,
-    pub status: u32,
-    pub stop: usize,
-    pub sequence: u32,
+    ) -> Told;
 }
 
 /// The statuses by their numbers, from 1.
@@ -47,9 +52,8 @@ const STATUSES: [&str; 5] = [
     "ESTIMATED_IN_TRANSIT_TO",
 ];
 
-pub fn estimate(laid: &Laid) -> Estimated {
-    let mut e = Estimated::default();
-    e.refusal = unsafe {
+pub fn estimate(laid: &Laid) -> Told {
+    unsafe {
         zebumorn_estimate(
             laid.bytes.as_ptr(),
             laid.bytes.len(),
@@ -62,27 +66,36 @@ pub fn estimate(laid: &Laid) -> Estimated {
             laid.dists.as_ptr(),
             laid.dists.len(),
             laid.columns,
-            &mut e.lat,
-            &mut e.lon,
-            &mut e.bearing,
-            &mut e.bears,
-            &mut e.status,
-            &mut e.stop,
-            &mut e.sequence,
         )
-    };
-    e
+    }
 }
 
-/// The line that the Board prints of it.
-pub fn line(e: &Estimated, case: &Case) -> String {
-    if e.refusal != 0 {
-        return format!("(refused {})", e.refusal);
+impl Told {
+    /// The line that the Board prints of it.
+    pub fn line(&self, case: &Case) -> String {
+        if self.refusal != 0 {
+            return format!("(refused {})", self.refusal);
+        }
+        if self.answered == 0 {
+            return "(none)".into();
+        }
+        let bearing = if self.bears == 1 { digits(self.bearing) } else { "-".into() };
+        let (stop, status) = (token(&case.stops[self.stop as usize].id), STATUSES[self.status as usize - 1]);
+        format!("(at {} {stop} {status} {} {} {bearing})", self.sequence, digits(self.lat), digits(self.lon))
     }
-    if e.status == 0 {
-        return "(none)".into();
+
+    /// The place beside it.
+    pub fn place(&self) -> Option<Place> {
+        let PlaceTold { fraction, vertex, kind, number, line, way } = self.place;
+        let number = number as usize;
+        let line = || [Kind::Shape, Kind::Chain, Kind::Straight][line as usize - 1];
+        match kind {
+            1 => Some(Place::Call(number)),
+            2 => Some(Place::Start(number)),
+            3 => Some(Place::End(number)),
+            4 => Some(Place::Stretch(number, line(), vertex as usize, way == 1, fraction)),
+            5 => Some(Place::Last(number, line())),
+            _ => None,
+        }
     }
-    let bearing = if e.bears { digits(e.bearing) } else { "-".into() };
-    let (stop, status) = (token(&case.stops[e.stop].id), STATUSES[e.status as usize - 1]);
-    format!("(at {} {stop} {status} {} {} {bearing})", e.sequence, digits(e.lat), digits(e.lon))
 }
