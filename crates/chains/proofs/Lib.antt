@@ -1,9 +1,2 @@
-pub mod Shift
-pub mod Small
-pub mod Bits
-pub mod Thinning
-pub mod Direction
-pub mod Ends
-pub mod Marking
-pub mod Standing
-pub mod Turns
+-- `Whole`: the whole of a chain, by the stops that are kept.
+pub mod Whole

@@ -1,10 +1,10 @@
 // The questions that are asked of a chain. The rows are marked for each, a bit a row, in an array that is small
 // where they are few.
-use crate::along::length_of;
-use crate::chain::Chain;
-use crate::drawing::along;
-use crate::drawing::drawn;
-use crate::marks::mark;
+use chain_spots::along;
+use chain_spots::drawn;
+use chain_spots::length_of;
+use chain_vertices::Chain;
+use chain_vertices::mark;
 use routes::Route;
 use stretches::Drawn;
 use stretches::Part;
@@ -14,7 +14,8 @@ use tables::Stops;
 ghost use mathlib.Core.Path.{_≡_};
 ghost use Prim.Native.Nat.{ℕ, _*_, _≤_};
 ghost use lib.ListN.{length, getD};
-ghost use Rattle.chains.specs.Chain.{chainLine, chainRoute, onChain, verticesOf};
+ghost use Rattle.chain_vertices.specs.Chain.{chainLine};
+ghost use Rattle.chains.specs.Route.{chainRoute, onChain, verticesOf};
 
 // A spot and its position.
 pub struct OnChain {

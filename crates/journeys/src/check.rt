@@ -1,13 +1,13 @@
 // The first refusal that applies to a journey, over all that is lent.
-use crate::legs::JourneyLegs;
-use crate::rules::ends;
-use crate::rules::legs;
+use journey_rules::JourneyLegs;
+use journey_rules::ends;
+use journey_rules::legs;
 use tables::Bounds;
 use tables::least;
 ghost use mathlib.Core.Path.{_≡_};
 ghost use Rattle.tables.specs.Pools.{pools};
 ghost use Rattle.tables.specs.Refuse.{refusalOf};
-ghost use Rattle.journeys.specs.Causes.{journeyCauses};
+ghost use Rattle.journey_rules.specs.Causes.{journeyCauses};
 
 pub(crate) fn check_journey(
     bytes: &[u8],

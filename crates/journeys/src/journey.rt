@@ -1,7 +1,7 @@
 // The operation.
 use crate::check::check_journey;
-use crate::legs::JourneyLegs;
-use crate::stitch::draw_legs;
+use journey_points::draw_legs;
+use journey_rules::JourneyLegs;
 use point_columns::Drawing;
 use tables::Bounds;
 ghost use mathlib.Core.Path.{_≡_};
@@ -9,8 +9,8 @@ ghost use lib.ListN.{length};
 ghost use Rattle.tables.specs.Pools.{pools};
 ghost use Rattle.tables.specs.Refuse.{chartBounds, refusalOf};
 ghost use Rattle.point_columns.specs.Answers.{drawingAnswer, drawnAnswer, latAfter, lonAfter};
-ghost use Rattle.journeys.specs.Causes.{journeyCauses};
-ghost use Rattle.journeys.specs.Journey.{journeyPoints};
+ghost use Rattle.journey_rules.specs.Causes.{journeyCauses};
+ghost use Rattle.journey_points.specs.Journey.{journeyPoints};
 
 // Draws the legs, if there is room.
 fn draw(

@@ -10,9 +10,9 @@ use Rattle.lengths.proofs.Rows.{vertex-count}
 use Rattle.stretches.specs.declared.part.Part.{Part}
 use Rattle.projection.specs.declared.cursor.Position.{Position}
 use Rattle.point_columns.specs.Drawn.{latsOf, lonsOf}
-use Rattle.leg_drawing.specs.Leg.{legPart, verticesOf, partDrawn}
-use Rattle.leg_drawing.specs.declared.ends.Ends.{Ends}
-use Rattle.leg_drawing.proofs.Between.{Within, part-within}
+use Rattle.leg_points.specs.Leg.{legPart, verticesOf, partDrawn}
+use Rattle.leg_points.specs.declared.ends.Ends.{Ends}
+use Rattle.leg_points.proofs.Between.{Within, part-within}
 
 pub part-lats : (lats lons : List Float) (a n : ℕ) → a + n ≤ length (lineOf lats lons) → latsOf (take n (drop a (lineOf lats lons))) ≡ take n (drop a lats)
 unfolding lineOf

@@ -9,9 +9,9 @@ use Rattle.stretches.specs.declared.part.Part.{Part}
 use Rattle.projection.specs.Projection.{atStart}
 use Rattle.projection.specs.declared.cursor.Position.{Position}
 use Rattle.projection.proofs.Order.{in-order}
-use Rattle.leg_drawing.specs.Leg.{vertexOf, legPart, verticesOf, partDrawn, stopsDrawn, legPoints}
-use Rattle.leg_drawing.specs.declared.ends.Ends.{Ends}
-use Rattle.leg_drawing.proofs.Between.{Within, part-within}
+use Rattle.leg_points.specs.Leg.{vertexOf, legPart, verticesOf, partDrawn, stopsDrawn, legPoints}
+use Rattle.leg_points.specs.declared.ends.Ends.{Ends}
+use Rattle.leg_points.proofs.Between.{Within, part-within}
 
 -- the vertex of the leg's first stop is never after that of its last, so that the Rust has no need to exchange them
 pub never-exchanged : (line : List Point) (stops : List Position) (leg : Ends) (i j : ℕ) → leg .board ≤ leg .alight →

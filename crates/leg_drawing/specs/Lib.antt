@@ -1,3 +1,2 @@
--- `Leg`: the points of a leg, of a line and the positions of a trip's stops. `Trip`: those of the trip asked of.
-pub mod Leg
+-- `Trip`: the points of a leg of the trip asked of.
 pub mod Trip

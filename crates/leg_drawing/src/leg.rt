@@ -1,8 +1,8 @@
 // The operation.
-use crate::part::part;
-use crate::stops::draw_stops;
 use checks::check_leg;
 use ids::Found;
+use leg_points::draw_stops;
+use leg_points::part;
 use lengths::vertices;
 use point_columns::Drawing;
 use point_columns::put_rows;
@@ -24,7 +24,7 @@ ghost use Rattle.checks.specs.Operations.{legCauses};
 ghost use Rattle.trip_rows.specs.Rows.{rowPosition};
 ghost use Rattle.trip_projection.specs.Vertices.{positionsFrom};
 ghost use Rattle.point_columns.specs.Answers.{drawingAnswer, drawnAnswer, latAfter, lonAfter};
-ghost use Rattle.leg_drawing.specs.Leg.{endsOf, partDrawn, stopsDrawn};
+ghost use Rattle.leg_points.specs.Leg.{endsOf, partDrawn, stopsDrawn};
 ghost use Rattle.leg_drawing.specs.Trip.{foundPoints, askedPoints};
 
 // The rows of a column from a up to e.

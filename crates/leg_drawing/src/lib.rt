@@ -1,8 +1,5 @@
 // Published: the points of a leg of a trip, into two lent columns. It ports `leg_geometry` of the Rust's routing/geometry.rs, over the
 // lent tables: the part of the trip's shape between the vertices of the leg's two stops, or the whole shape, or the stops from the one to the other.
-mod ends; // ends.rt: the rows of the leg's two stops
 mod leg; // leg.rt: the operation
-mod part; // part.rt: the part of the shape
-mod stops; // stops.rt: the stops, where there is no shape
 
 pub use leg::leg_geometry;

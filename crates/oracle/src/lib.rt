@@ -6,9 +6,6 @@ ghost use Rattle.ieee.specs.Number.{absOf, maxOf, clamp01Of, leastOf};
 ghost use Rattle.roots.specs.Root.{rootOf};
 ghost use Rattle.ieee.specs.Single.{narrowOf};
 ghost use Rattle.maths.specs.Trig.{sinOf, cosOf, atanOf, atan2Of, asinOf, hypotOf, radiansOf, degreesOf};
-ghost use Rattle.measure.specs.Answer.{answerOf, numberOf, valueOr};
-ghost use Rattle.measure.specs.Measure.{measured, haversineOf, bearingOf};
-use measure::Measured;
 
 #[no_mangle]
 pub extern "C" fn zebumorn_is_nan(x: f64) -> bool
@@ -113,45 +110,4 @@ pub extern "C" fn zebumorn_hypot(x: f64, y: f64) -> f64
     ensures { λ r. ⌜ r ≡ hypotOf x y ⌝ }
 {
     maths::hypot(x, y)
-}
-
-// 0 and the value in out, or the refusal's number with out as it was.
-fn told(m: Measured, out: &mut f64) -> u32
-    ensures { λ r. ⌜ (r ≡ numberOf (answerOf m)) × (now (out .exit) ≡ valueOr (now (out .entry)) (answerOf m)) ⌝ }
-{
-    match m {
-        Measured::Value(x) => {
-            *out = x;
-            0
-        }
-        Measured::OffGlobe => 3,
-    }
-}
-
-#[no_mangle]
-pub extern "C" fn zebumorn_haversine_m(
-    lat1: f64,
-    lon1: f64,
-    lat2: f64,
-    lon2: f64,
-    out: &mut f64,
-) -> u32
-    ensures { λ r. ⌜ r ≡ numberOf (measured haversineOf lat1 lon1 lat2 lon2) ⌝ }
-    ensures { λ _. ⌜ now (out .exit) ≡ valueOr (now (out .entry)) (measured haversineOf lat1 lon1 lat2 lon2) ⌝ }
-{
-    told(measure::haversine_m(lat1, lon1, lat2, lon2), out)
-}
-
-#[no_mangle]
-pub extern "C" fn zebumorn_bearing_deg(
-    lat1: f64,
-    lon1: f64,
-    lat2: f64,
-    lon2: f64,
-    out: &mut f64,
-) -> u32
-    ensures { λ r. ⌜ r ≡ numberOf (measured bearingOf lat1 lon1 lat2 lon2) ⌝ }
-    ensures { λ _. ⌜ now (out .exit) ≡ valueOr (now (out .entry)) (measured bearingOf lat1 lon1 lat2 lon2) ⌝ }
-{
-    told(measure::bearing_deg(lat1, lon1, lat2, lon2), out)
 }

@@ -15,9 +15,9 @@ use Rattle.days.specs.Days.{ordinal}
 use Rattle.tables.specs.declared.lent.Calendars.{Calendars}
 use Rattle.tables.specs.declared.lent.Exceptions.{Exceptions}
 use Rattle.tables.specs.declared.lent.Ranges.{Ranges}
-use Rattle.services.specs.Rows.{standOf, rowIs, Ascend}
-use Rattle.services.specs.declared.rows.Rows.{Rows}
-use Rattle.services.specs.declared.rows.Rows.the-variants.{Ranges as ByNames, Exceptions as ByDay}
+use Rattle.row_lookup.specs.Rows.{standOf, rowIs, Ascend}
+use Rattle.row_lookup.specs.declared.rows.Rows.{Rows}
+use Rattle.row_lookup.specs.declared.rows.Rows.the-variants.{Ranges as ByNames, Exceptions as ByDay}
 
 -- the weekday of a day, Monday 0: 00010101 is a Monday
 abbrev pub weekdayAt : ℕ → ℕ

@@ -1,15 +1,15 @@
 // Whether a service runs on a day.
-use crate::rows::Rows;
-use crate::rows::row_of;
 use ids::Found;
 use ids::Span;
+use row_lookup::Rows;
+use row_lookup::row_of;
 use tables::Calendars;
 use tables::Exceptions;
 use tables::Ranges;
 ghost use mathlib.Core.Path.{_≡_};
 ghost use lib.ListN.{getD};
 ghost use Prim.Native.Nat.{_+_};
-ghost use Rattle.services.specs.Rows.{Ascend};
+ghost use Rattle.row_lookup.specs.Rows.{Ascend};
 ghost use Rattle.services.specs.Runs.{onWeekday, inRange, excepted, exceptionRows, ranged, rangeRows, runsOf, Calendared};
 
 // Row k of a column of bytes.

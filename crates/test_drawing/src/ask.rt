@@ -1,6 +1,6 @@
 // What is drawn, and the answer as it is written.
 use ids::Span;
-use journeys::JourneyLegs;
+use journey_rules::JourneyLegs;
 use libc::STDOUT_FILENO;
 use point_columns::Drawing;
 use tables::Points;

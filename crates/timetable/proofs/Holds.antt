@@ -26,8 +26,8 @@ use Rattle.asked_rules.proofs.Parts.{journey-departure, journey-departs, journe
 use Rattle.checks.specs.Operations.{matchingCauses, serviceDayCauses}
 use Rattle.checks.proofs.Operations.{Calendar, Lookup, Matching, matching-holds, service-day-holds}
 use Rattle.services.specs.Runs.{Calendared}
-use Rattle.services.proofs.Ascends.{lines-in-order}
-use Rattle.services.proofs.Ascends.{ranges-ascend as by-names, exceptions-ascend as by-day}
+use Rattle.row_lookup.proofs.Ascends.{lines-in-order}
+use Rattle.row_lookup.proofs.Ascends.{ranges-ascend as by-names, exceptions-ascend as by-day}
 use Rattle.matching.specs.Matching.{Ready}
 use Rattle.matching.specs.Moments.{InReach}
 use Rattle.timetable.specs.Timetable.{namedOf, planOf, timeOf, departsOf, localOf}

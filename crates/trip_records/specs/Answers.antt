@@ -12,9 +12,9 @@ use Rattle.records.specs.Rows.{each}
 use Rattle.records.specs.Records.{fillRow}
 use Rattle.records.specs.declared.StopTime.{StopTime}
 use Rattle.record_faults.specs.Faults.{fold, start, stepOf}
-use Rattle.trip_records.specs.Verdict.{lentCauses, verdictOf}
+use Rattle.record_refusals.specs.Verdict.{lentCauses, verdictOf}
 use Rattle.trip_records.specs.Records.{recordFilled}
-use Rattle.trip_records.specs.declared.Lent.{Lent}
+use Rattle.record_refusals.specs.declared.Lent.{Lent}
 
 module _ (rs : List StopTime) (bytes words : List ℕ) (reals : List Float) (l : Lent) (ats : List ℕ) (ds : List Float) (ks : List ℕ) where
   -- the first refusal that applies, or 0

@@ -18,7 +18,7 @@ use Rattle.backfill.specs.declared.row.Distance.{Distance}
 use Rattle.records.specs.Rows.{each, mapTo}
 use Rattle.records.specs.Records.{fillRow, flagOf, stopCol, distCol, knownCol}
 use Rattle.records.specs.declared.StopTime.{StopTime}
-use Rattle.trip_records.specs.declared.Lent.{Lent}
+use Rattle.record_refusals.specs.declared.Lent.{Lent}
 
 -- the points of the trip's shape
 unfoldable pub lentLine : List Float → Lent → List Point

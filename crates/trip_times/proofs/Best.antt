@@ -16,9 +16,9 @@ use Rattle.ids.specs.declared.order.Order.the-variants.{Less, Same}
 use Rattle.ids.proofs.ByteOrder.{clash, split}
 use Rattle.ids.specs.Pool.{cellOf, idOf}
 use Rattle.columns.proofs.Scan.{Missed}
-use Rattle.services.specs.Rows.{standOf, partsAt, keyOf, rowIs, isSame}
-use Rattle.services.specs.declared.rows.Rows.the-variants.{Lines}
-use Rattle.services.proofs.Halves.{earlier, none-after, is-other, parts-same}
+use Rattle.row_lookup.specs.Rows.{standOf, partsAt, keyOf, rowIs, isSame}
+use Rattle.row_lookup.specs.declared.rows.Rows.the-variants.{Lines}
+use Rattle.row_lookup.proofs.Halves.{earlier, none-after, is-other, parts-same}
 use Rattle.trip_fits.specs.Fits.{away, near, tripFit}
 use Rattle.trip_times.specs.Line.{onLine, rowFit, lineFrom, leastOf, keptOf, bestOf, beside, lineTrip, Planned, ShortTokens}
 use Rattle.trip_fits.specs.declared.fit.Count.{Count}

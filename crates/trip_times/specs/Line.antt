@@ -8,8 +8,8 @@ use Rattle.ids.specs.Pool.{cellOf, idOf}
 use Rattle.ids.specs.declared.lookup.Found.{Found}
 use Rattle.ids.specs.declared.lookup.Found.the-variants.{At, Nothing}
 use Rattle.columns.specs.Rows.{some}
-use Rattle.services.specs.Rows.{standOf, rowIs, placeOf, InOrder}
-use Rattle.services.specs.declared.rows.Rows.the-variants.{Lines}
+use Rattle.row_lookup.specs.Rows.{standOf, rowIs, placeOf, InOrder}
+use Rattle.row_lookup.specs.declared.rows.Rows.the-variants.{Lines}
 use Rattle.services.specs.Runs.{Calendared}
 use Rattle.trip_fits.specs.Fits.{away, near, tripFit}
 use Rattle.trip_fits.specs.declared.fit.Count.{Count}

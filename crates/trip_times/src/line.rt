@@ -2,9 +2,9 @@
 // halves, and then they are read one by one.
 use ids::Found;
 use ids::Order;
-use services::Rows;
-use services::seek;
-use services::stands;
+use row_lookup::Rows;
+use row_lookup::seek;
+use row_lookup::stands;
 use trip_fits::Count;
 use trip_fits::Fit;
 use trip_fits::Plan;

@@ -19,8 +19,8 @@ use Rattle.by_distance.specs.declared.span.Spanned.the-variants.{Over, Short}
 use Rattle.polylines.specs.Polyline.{routeBetween}
 use Rattle.trip_rows.specs.Rows.{shapeColumn}
 use Rattle.trip_samples.specs.declared.course.Course.{Course}
-use Rattle.chains.specs.Chain.{spanned, legChain}
-use Rattle.chains.specs.declared.chain.Chain.{Chain}
+use Rattle.chain_vertices.specs.Chain.{spanned, legChain}
+use Rattle.chain_vertices.specs.declared.chain.Chain.{Chain}
 use Rattle.legs.specs.Path.{overChain, overRoute, overSpan, pathOf}
 use Rattle.legs.specs.Walk.{startOf, endOf, insideLeg, walkOf}
 use Rattle.legs.specs.declared.path.End.{End}

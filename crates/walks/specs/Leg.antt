@@ -13,8 +13,8 @@ use Rattle.by_distance.specs.declared.span.Spanned.{Spanned}
 use Rattle.trip_rows.specs.Rows.{tripSpan, shapeColumn}
 use Rattle.trip_samples.specs.Trip.{tripAffine}
 use Rattle.trip_samples.specs.declared.course.Course.{Course}
-use Rattle.chains.specs.Chain.{legChain, chainLine}
-use Rattle.chains.specs.declared.chain.Chain.{Chain}
+use Rattle.chain_vertices.specs.Chain.{legChain, chainLine}
+use Rattle.chain_vertices.specs.declared.chain.Chain.{Chain}
 use Rattle.legs.specs.Path.{feedSpan, pathOf}
 use Rattle.legs.specs.declared.path.End.{End}
 use Rattle.legs.specs.declared.path.Path.{Path}

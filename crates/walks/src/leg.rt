@@ -1,6 +1,6 @@
 // The shape and the chain of a leg. A leg of no trip has no shape, and no stop between its ends.
-use chains::Chain;
-use chains::chain_of;
+use chain_vertices::Chain;
+use chain_vertices::chain_of;
 use ids::Found;
 use ids::Span;
 use legs::End;

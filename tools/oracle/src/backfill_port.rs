@@ -1,4 +1,4 @@
-//! The port's side of backfill: the functions of target/staticlib/liboracle_backfill.a, on a world laid out in pools.
+//! The port's side of backfill: the functions of target/staticlib/libexports_backfill.a, on a world laid out in pools.
 use crate::inputs::trips::World;
 
 #[repr(C)]

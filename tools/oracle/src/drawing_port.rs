@@ -1,4 +1,4 @@
-//! The port's side of drawing: the functions of target/staticlib/liboracle_drawing.a, on worlds laid out in pools.
+//! The port's side of drawing: the functions of target/staticlib/libexports_drawing.a, on worlds laid out in pools.
 #![allow(dead_code)]
 use crate::drawn::lay::{Laid, Span, JOURNEY, TABLES};
 

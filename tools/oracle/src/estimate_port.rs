@@ -1,8 +1,10 @@
-//! The port's side of the estimate: the function of target/staticlib/libexports_estimate.a, as crates/exports_estimate has it.
+//! The port's side of the estimate: the function of target/staticlib/libexports_estimate.a.
 use crate::cases::lay::{Laid, Tables};
 use crate::cases::place::{Kind, Place};
 use crate::cases::{digits, token, Case};
 
+/// Where an estimate is; include/zebumorn.h says what its numbers are.
+#[derive(Clone, Copy)]
 #[repr(C)]
 pub struct PlaceTold {
     pub fraction: f64,
@@ -13,6 +15,8 @@ pub struct PlaceTold {
     pub way: u32,
 }
 
+/// What the estimate answers.
+#[derive(Clone, Copy)]
 #[repr(C)]
 pub struct Told {
     pub lat: f64,

@@ -1,4 +1,4 @@
-//! The port's side of matching: the functions of target/staticlib/liboracle_matching.a.
+//! The port's side of matching: the functions of target/staticlib/libexports_timetable.a.
 use crate::worlds::lay::{column, Laid, Span};
 
 const JOURNEY_COLUMNS: usize = column::SERVICE - column::JOURNEY;

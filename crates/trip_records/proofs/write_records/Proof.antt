@@ -50,9 +50,9 @@ use Rattle.records.specs.declared.StopTime.{StopTime}
 use Rattle.records.proofs.Lists.{length-mapTo, length-each}
 use Rattle.records.proofs.Lent.{at-name, lend-mut, back-mut, lend-shr, back-shr}
 use Rattle.records.proofs.StopTime as T
-use Rattle.trip_records.specs.declared.Lent.{Lent}
-use Rattle.trip_records.proofs.Lent as Lt
-use Rattle.trip_records.proofs.Lent.Laws as Lt′
+use Rattle.record_refusals.specs.declared.Lent.{Lent}
+use Rattle.record_refusals.proofs.Lent as Lt
+use Rattle.record_refusals.proofs.Lent.Laws as Lt′
 use Rattle.trip_records.specs.Records.{laidR, laidA, colD, colK, laidD, laidK}
 use Rattle.trip_records.proofs.Laid.{dists-long, marks-long}
 use Rattle.records.proofs.stops_of as stops-of

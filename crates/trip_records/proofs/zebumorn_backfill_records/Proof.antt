@@ -53,16 +53,16 @@ use Rattle.records.proofs.Cases.{holds, fails, cases, goes-by}
 use Rattle.records.proofs.Lists.{length-mapTo, length-each}
 use Rattle.records.proofs.Lent.{at-name, lend-mut, back-mut, lend-shr, back-shr}
 use Rattle.records.proofs.StopTime as T
-use Rattle.trip_records.specs.declared.Lent.{Lent}
-use Rattle.trip_records.proofs.Lent as Lt
-use Rattle.trip_records.proofs.Lent.Laws as Lt′
+use Rattle.record_refusals.specs.declared.Lent.{Lent}
+use Rattle.record_refusals.proofs.Lent as Lt
+use Rattle.record_refusals.proofs.Lent.Laws as Lt′
 use Rattle.tables.specs.Pools.{pools}
 use Rattle.tables.specs.Refuse.{chartBounds, refusalOf}
 use Rattle.record_faults.specs.Faults.{fold, start, stepOf}
 use Rattle.record_faults.specs.declared.Faults.{Faults}
 use Rattle.record_faults.proofs.Faults as S
 use Rattle.record_faults.proofs.Faults.Laws as S′
-use Rattle.trip_records.specs.Verdict.{lentCauses, verdictOf}
+use Rattle.record_refusals.specs.Verdict.{lentCauses, verdictOf}
 use Rattle.trip_records.specs.Records.{laidR, laidA, laidD, laidK}
 use Rattle.trip_records.specs.Answers.{codeOf, recordsAfter, stopsAfter, distsAfter, marksAfter}
 use Rattle.trip_records.proofs.Laid.{dists-long, marks-long}
@@ -75,14 +75,14 @@ use Rattle.trip_records.proofs.stop_count as stop-count
 use Rattle.trip_records.proofs.stop_count.Symbol as stop-count-def
 use Rattle.trip_records.proofs.stop_count.Symbol.{name as #trip_records·stop_count}
 use Rattle.trip_records.proofs.stop_count.Met as stop-count-thm
-use Rattle.trip_records.proofs.check_lent as check-lent
-use Rattle.trip_records.proofs.check_lent.Symbol as check-lent-def
-use Rattle.trip_records.proofs.check_lent.Symbol.{name as #trip_records·check_lent}
-use Rattle.trip_records.proofs.check_lent.Met as check-lent-thm
-use Rattle.trip_records.proofs.verdict as verdict
-use Rattle.trip_records.proofs.verdict.Symbol as verdict-def
-use Rattle.trip_records.proofs.verdict.Symbol.{name as #trip_records·verdict}
-use Rattle.trip_records.proofs.verdict.Met as verdict-thm
+use Rattle.record_refusals.proofs.check_lent as check-lent
+use Rattle.record_refusals.proofs.check_lent.Symbol as check-lent-def
+use Rattle.record_refusals.proofs.check_lent.Symbol.{name as #record_refusals·check_lent}
+use Rattle.record_refusals.proofs.check_lent.Met as check-lent-thm
+use Rattle.record_refusals.proofs.verdict as verdict
+use Rattle.record_refusals.proofs.verdict.Symbol as verdict-def
+use Rattle.record_refusals.proofs.verdict.Symbol.{name as #record_refusals·verdict}
+use Rattle.record_refusals.proofs.verdict.Met as verdict-thm
 use Rattle.trip_records.proofs.write_records as write-records
 use Rattle.trip_records.proofs.write_records.Symbol as write-records-def
 use Rattle.trip_records.proofs.write_records.Symbol.{name as #trip_records·write_records}
@@ -355,7 +355,7 @@ module _ {M : Type 1} (𝓤 : URA M) (H : Heap 𝓤) (A : Atoms 𝓤) (W : Given
     goes-write : (n ≤ 1000000) × (n ≤ length ats) × (n ≤ length ds) × (n ≤ length ks) → ent 𝓤 (⋆ 𝓤 H A For-write) (Write 𝓤 H A mem run .pre to-write)
     goes-write ins = qed W For-write ∵ says ! ins $ nothing ! $ move ! (6 ∷ 0 ∷ []) $ join ! $ move ! (5 ∷ 0 ∷ []) $ join ! $ move ! (4 ∷ 0 ∷ []) $ join ! $ move ! (3 ∷ 0 ∷ []) $ join ! $ move ! (2 ∷ 0 ∷ []) $ join ! $ move ! (1 ∷ 0 ∷ []) $ join ! $ frame ! $ nothing ! $ move ! (6 ∷ 0 ∷ []) $ fjoin ! $ move ! (5 ∷ 0 ∷ []) $ fjoin ! $ move ! (4 ∷ 0 ∷ []) $ fjoin ! $ owned ! Lt.the-row (Is Lt.the-row) ((LL.makes Lt.the-type Lt′.the-plain) 𝓤 H A) l _ l-is $ fjoin ! $ move ! (3 ∷ 0 ∷ []) $ fjoin ! $ move ! (2 ∷ 0 ∷ []) $ fjoin ! $ move ! (1 ∷ 0 ∷ []) $ fjoin ! $ done !
 
-  module _ (C : Calls 𝓤 H) (Λ : Loops 𝓤 H) (fm : FmC 𝓤 H (W .laws) C) (known-count : Triple 𝓤 (C #trip_records·stop_count) (Count 𝓤 H A mem run)) (known-scan : Triple 𝓤 (C #record_faults·scan) (Scan 𝓤 H A mem run)) (known-check : Triple 𝓤 (C #trip_records·check_lent) (Check 𝓤 H A mem run)) (known-verdict : Triple 𝓤 (C #trip_records·verdict) (Verdict 𝓤 H A mem run)) (known-write : Triple 𝓤 (C #trip_records·write_records) (Write 𝓤 H A mem run)) where
+  module _ (C : Calls 𝓤 H) (Λ : Loops 𝓤 H) (fm : FmC 𝓤 H (W .laws) C) (known-count : Triple 𝓤 (C #trip_records·stop_count) (Count 𝓤 H A mem run)) (known-scan : Triple 𝓤 (C #record_faults·scan) (Scan 𝓤 H A mem run)) (known-check : Triple 𝓤 (C #record_refusals·check_lent) (Check 𝓤 H A mem run)) (known-verdict : Triple 𝓤 (C #record_refusals·verdict) (Verdict 𝓤 H A mem run)) (known-write : Triple 𝓤 (C #trip_records·write_records) (Write 𝓤 H A mem run)) where
     walk : ent 𝓤 (onEntry 𝓤 H A f.signature (κ₁, (κ₂, (κ₃, (κ₄, (κ₆, (κ₇, (κ₈, tt))))))) (q₁, (q₂, (q₃, (q₄, (q₆, (q₇, (q₈, tt))))))) a vals) (WpFn 𝓤 H C Λ code.function (s₁ ∷ s₂ ∷ s₃ ∷ s₄ ∷ val l ∷ s₆ ∷ s₇ ∷ s₈ ∷ []) Post)
     walk =
         qed W ((‵ (flft κ₁ q₁) ⊛ ‵ (flft κ₂ q₂) ⊛ ‵ (flft κ₃ q₃) ⊛ ‵ (flft κ₄ q₄) ⊛ ‵ (flft κ₆ q₆) ⊛ ‵ (flft κ₇ q₇) ⊛ ‵ (flft κ₈ q₈) ⊛ ‵ ftrue) ∷ ‵ (owns (MutSlice (named 0) κ₁ R ∷ ShrSlice (named 1) κ₂ u8 ∷ ShrSlice (named 2) κ₃ u32 ∷ ShrSlice (named 3) κ₄ f64 ∷ Lt.the-row ∷ MutSlice (named 4) κ₆ u32 ∷ MutSlice (named 5) κ₇ f32 ∷ MutSlice (named 6) κ₈ u8 ∷ []) a vals) ∷ []) ∵
@@ -801,7 +801,7 @@ module _ {M : Type 1} (𝓤 : URA M) (H : Heap 𝓤) (A : Atoms 𝓤) (W : Given
         free1 ! $
         free0 ! $ keep ! (9 ∷ 10 ∷ 6 ∷ 7 ∷ 3 ∷ 4 ∷ 0 ∷ 1 ∷ 11 ∷ 13 ∷ 16 ∷ 12 ∷ 8 ∷ 5 ∷ 2 ∷ 15 ∷ 17 ∷ 14 ∷ []) $ by ! (exits 0 F₂ A₁ D₂ K₂ (lit< tt) (done-is (zero-is m e₀ c₁ e₁ v e₂ u e₃ no₀)) len-F len-A₁ (len-D₂ (zero-is m e₀ c₁ e₁ v e₂ u e₃ no₀)) (len-K₂ (zero-is m e₀ c₁ e₁ v e₂ u e₃ no₀)))))))))))))))))))))))))))))))))))))))))))))))))))))))))))))))))))))
 
-module _ {M : Type 1} (𝓤 : URA M) (H : Heap 𝓤) (A : Atoms 𝓤) (W : Given 𝓤 H A) (mem : Memory → SProp 𝓤) (run : Routine → Fun 𝓤) (𝓣 : Tables 𝓤 H) (known-count : Triple 𝓤 (𝓣 .C #trip_records·stop_count) (Count 𝓤 H A mem run)) (known-scan : Triple 𝓤 (𝓣 .C #record_faults·scan) (Scan 𝓤 H A mem run)) (known-check : Triple 𝓤 (𝓣 .C #trip_records·check_lent) (Check 𝓤 H A mem run)) (known-verdict : Triple 𝓤 (𝓣 .C #trip_records·verdict) (Verdict 𝓤 H A mem run)) (known-write : Triple 𝓤 (𝓣 .C #trip_records·write_records) (Write 𝓤 H A mem run)) where
+module _ {M : Type 1} (𝓤 : URA M) (H : Heap 𝓤) (A : Atoms 𝓤) (W : Given 𝓤 H A) (mem : Memory → SProp 𝓤) (run : Routine → Fun 𝓤) (𝓣 : Tables 𝓤 H) (known-count : Triple 𝓤 (𝓣 .C #trip_records·stop_count) (Count 𝓤 H A mem run)) (known-scan : Triple 𝓤 (𝓣 .C #record_faults·scan) (Scan 𝓤 H A mem run)) (known-check : Triple 𝓤 (𝓣 .C #record_refusals·check_lent) (Check 𝓤 H A mem run)) (known-verdict : Triple 𝓤 (𝓣 .C #record_refusals·verdict) (Verdict 𝓤 H A mem run)) (known-write : Triple 𝓤 (𝓣 .C #trip_records·write_records) (Write 𝓤 H A mem run)) where
   zebumorn-backfill-records-walks : Walks 𝓤 H A f.ended stayed (WpFn 𝓤 H (𝓣 .C) (𝓣 .Λ) code.function) (f.clauses 𝓤 H A mem run)
   zebumorn-backfill-records-walks = walked 𝓤 H A f.ended stayed (f.clauses 𝓤 H A mem run) (WpFn 𝓤 H (𝓣 .C) (𝓣 .Λ) code.function)
       (λ κs. (slice-vals, (slice-vals, (slice-vals, (slice-vals, (LL.vals Lt.the-type Lt′.the-laws, (slice-vals, (slice-vals, (slice-vals, tt)))))))))
@@ -827,6 +827,6 @@ zebumorn-backfill-records-spec 𝓤 H 𝓜 𝓖 𝓡 =
     (zebumorn-backfill-records-meets 𝓤 H (𝓖 .A) (givenOf 𝓤 H 𝓜 𝓖) (𝓜 .mem) (𝓡 .run) (tablesOf 𝓤 H 𝓜 (tables 𝓤 H 𝓜 𝓡 code.env))
     (cited 𝓤 H (Count 𝓤 H (𝓖 .A) (𝓜 .mem) (𝓡 .run)) 𝓜 𝓡 code.env #trip_records·stop_count stop-count-def.routine code.calls-trip-records·stop-count (stop-count-thm.met 𝓤 H 𝓜 𝓖 𝓡))
     (cited 𝓤 H (Scan 𝓤 H (𝓖 .A) (𝓜 .mem) (𝓡 .run)) 𝓜 𝓡 code.env #record_faults·scan scan-def.routine code.calls-record-faults·scan (scan-thm.met 𝓤 H 𝓜 𝓖 𝓡))
-    (cited 𝓤 H (Check 𝓤 H (𝓖 .A) (𝓜 .mem) (𝓡 .run)) 𝓜 𝓡 code.env #trip_records·check_lent check-lent-def.routine code.calls-trip-records·check-lent (check-lent-thm.met 𝓤 H 𝓜 𝓖 𝓡))
-    (cited 𝓤 H (Verdict 𝓤 H (𝓖 .A) (𝓜 .mem) (𝓡 .run)) 𝓜 𝓡 code.env #trip_records·verdict verdict-def.routine code.calls-trip-records·verdict (verdict-thm.met 𝓤 H 𝓜 𝓖 𝓡))
+    (cited 𝓤 H (Check 𝓤 H (𝓖 .A) (𝓜 .mem) (𝓡 .run)) 𝓜 𝓡 code.env #record_refusals·check_lent check-lent-def.routine code.calls-record-refusals·check-lent (check-lent-thm.met 𝓤 H 𝓜 𝓖 𝓡))
+    (cited 𝓤 H (Verdict 𝓤 H (𝓖 .A) (𝓜 .mem) (𝓡 .run)) 𝓜 𝓡 code.env #record_refusals·verdict verdict-def.routine code.calls-record-refusals·verdict (verdict-thm.met 𝓤 H 𝓜 𝓖 𝓡))
     (cited 𝓤 H (Write 𝓤 H (𝓖 .A) (𝓜 .mem) (𝓡 .run)) 𝓜 𝓡 code.env #trip_records·write_records write-records-def.routine code.calls-trip-records·write-records (write-records-thm.met 𝓤 H 𝓜 𝓖 𝓡)))

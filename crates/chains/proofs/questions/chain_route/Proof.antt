@@ -3,7 +3,7 @@ use borrow.Author.Needs.{needs}
 use Prim.Native.Nat.{ℕ}
 use native.Mathlib.Omega.{arith}
 use lib.ListN.{length-replicate}
-use Rattle.chains.proofs.Turns.{zeros}
+use Rattle.chains.proofs.Whole.{zeros}
 use Rattle.chains.proofs.questions.chain_route.Statement.{statement}
 use Rattle.chains.proofs.questions.chain_route.Tie as tie
 

@@ -1,8 +1,8 @@
 -- `chains::questions::walk_in` meets its contract.
 use borrow.Author.Needs.{needs}
 use mathlib.Core.Path.{ap, _∙_}
-use Rattle.chains.specs.Chain.{onChain, verticesOf}
-use Rattle.chains.proofs.Turns.{vertices-are}
+use Rattle.chains.specs.Route.{onChain, verticesOf}
+use Rattle.chains.proofs.Whole.{vertices-are}
 use Rattle.chains.proofs.questions.walk_in.Statement.{statement}
 use Rattle.chains.proofs.questions.walk_in.Tie as tie
 

@@ -4,7 +4,7 @@ use Rattle.ids.specs.Texts.{isAt}
 use Rattle.services.specs.Runs.{excepted}
 use Rattle.services.proofs.active.is_excepted.Statement.{statement}
 use Rattle.services.proofs.active.is_excepted.Tie as tie
-use Rattle.services.proofs.rows.row_of.Reads as row-of-reads
+use Rattle.row_lookup.proofs.row_of.Reads as row-of-reads
 
 cast-row-of : tie.Need-cast-row-of
 cast-row-of c = search needs

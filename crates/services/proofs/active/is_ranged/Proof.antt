@@ -4,7 +4,7 @@ use Rattle.services.specs.Runs.{ranged}
 use Rattle.services.proofs.active.is_ranged.Statement.{statement}
 use Rattle.services.proofs.active.is_ranged.Tie as tie
 use Rattle.services.proofs.active.in_range.Reads as in-range-reads
-use Rattle.services.proofs.rows.row_of.Reads as row-of-reads
+use Rattle.row_lookup.proofs.row_of.Reads as row-of-reads
 
 cast-row-of : tie.Need-cast-row-of
 cast-row-of c = search needs

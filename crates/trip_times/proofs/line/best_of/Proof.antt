@@ -5,9 +5,9 @@ use borrow.Author.Tests.{not-false, not-true}
 use Prim.Native.Nat.{_-_, _≤_, ℕ}
 use mathlib.Core.Bool.{true, false}
 use mathlib.Core.Path.{_∙_, _≡_, ap, sym}
-use Rattle.services.proofs.Halves.{place-le}
-use Rattle.services.specs.Rows.{keyOf, partsAt, standOf}
-use Rattle.services.specs.declared.rows.Rows.the-variants.{Lines}
+use Rattle.row_lookup.proofs.Halves.{place-le}
+use Rattle.row_lookup.specs.Rows.{keyOf, partsAt, standOf}
+use Rattle.row_lookup.specs.declared.rows.Rows.the-variants.{Lines}
 use mathlib.Core.List.{[]}
 use Rattle.trip_fits.specs.declared.fit.Fit.{Fit}
 use Rattle.trip_times.specs.Line.{bestOf, rowFit}

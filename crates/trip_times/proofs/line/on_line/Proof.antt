@@ -1,9 +1,9 @@
 use borrow.Author.Needs.{needs}
 use mathlib.Core.Path.{_∙_, ap, sym}
-use Rattle.services.specs.Rows.{isSame, rowIs}
+use Rattle.row_lookup.specs.Rows.{isSame, rowIs}
 use Rattle.trip_times.proofs.line.on_line.Statement.{statement}
 use Rattle.trip_times.proofs.line.on_line.Tie as tie
-use Rattle.services.proofs.stands.Reads as stands-reads
+use Rattle.row_lookup.proofs.stands.Reads as stands-reads
 
 slice-aggregate-stands : tie.Need-slice-aggregate-stands
 slice-aggregate-stands c = search needs

@@ -1,5 +1,5 @@
 -- `walks::path::chain_path` meets its contract.
-use Rattle.chains.specs.Chain.{chainRoute}
+use Rattle.chains.specs.Route.{chainRoute}
 use Rattle.walks.proofs.Choice.{in-reach}
 use Rattle.walks.proofs.path.chain_path.Statement.{statement}
 use Rattle.walks.proofs.path.chain_path.Tie as tie

@@ -1,0 +1,112 @@
+// Answers, and faults of a text.
+use crate::text::Reading;
+use case_tables::limits;
+use case_words::Form;
+use case_words::Why;
+use libc::STDERR_FILENO;
+use libc::STDOUT_FILENO;
+
+pub fn print_none() {
+    io::write_all(STDOUT_FILENO, b"(none)\n");
+}
+
+pub fn print_refusal(number: u32) {
+    io::write_all(STDOUT_FILENO, b"(refused ");
+    io::print_decimal(STDOUT_FILENO, number as u64);
+    io::write_all(STDOUT_FILENO, b")\n");
+}
+
+// An id as a case has it.
+pub fn print_id(s: &[u8]) {
+    if s.len() == 0 {
+        io::write_all(STDOUT_FILENO, b"%");
+    }
+    let mut i = 0;
+    while i < s.len() {
+        print_byte(s[i]);
+        i += 1;
+    }
+}
+
+fn print_byte(b: u8) {
+    if case_tokens::is_plain(b) {
+        let one = [b];
+        io::write_all(STDOUT_FILENO, &one);
+    } else {
+        let three = case_tokens::escape(b);
+        io::write_all(STDOUT_FILENO, &three);
+    }
+}
+
+// Refusal 11: its cause goes to standard error.
+pub fn print_fault(r: Reading) {
+    let form = r.form;
+    let why = r.why;
+    say(b"line ");
+    io::print_decimal(STDERR_FILENO, r.lines);
+    say(b": ");
+    say_name(form);
+    say_why(why);
+    say(b"\n");
+    print_refusal(11);
+}
+
+// The name of a form.
+fn say_name(form: Form) {
+    match form {
+        Form::Feed => say(b"feed: "),
+        Form::Trip => say(b"trip: "),
+        Form::Now => say(b"now: "),
+        Form::Offset => say(b"offset: "),
+        Form::Cancelled => say(b"cancelled: "),
+        Form::Route => say(b"route: "),
+        Form::Update => say(b"update: "),
+        Form::Stop => say(b"stop: "),
+        Form::StopKey => say(b"stop-key: "),
+        Form::Static => say(b"static: "),
+        Form::StaticKey => say(b"static-key: "),
+        Form::Call => say(b"call: "),
+        Form::Shape => say(b"shape: "),
+        Form::Point => say(b"point: "),
+        Form::Alias => say(b"alias: "),
+        Form::Line => say(b"line: "),
+        Form::Calendar => say(b"calendar: "),
+        Form::Range => say(b"range: "),
+        Form::Exception => say(b"exception: "),
+        Form::Other => {}
+    }
+}
+
+fn say_why(why: Why) {
+    match why {
+        Why::Nothing => {}
+        Why::Long => say(b"longer than any form"),
+        Why::Name => say(b"no form of this name, or no query that is written so"),
+        Why::Tokens => say(b"too few words or too many, or a bracket out of its place"),
+        Why::Token(i) => say_number(b"not what this form takes as word ", i),
+        Why::Again => say(b"stands again"),
+        Why::Rows(n) => say_number(b"more rows than are held, which are ", n),
+        Why::Ids => say_number(
+            b"more bytes of ids than are held, which are ",
+            limits::ID_BYTES,
+        ),
+        Why::Queries => say(
+            b"more queries than are held, or a query for a program that holds none",
+        ),
+        Why::NoStatic => say(b"no static stands above it"),
+        Why::NoShape => say(b"no shape stands above it"),
+        Why::NoFeed => say(b"the text ends without a feed"),
+        Why::NoTrip => say(b"the text ends without a trip"),
+        Why::NoNow => say(b"the text ends without a now"),
+        Why::Endless => say(b"the text does not end"),
+    }
+}
+
+fn say_number(text: &[u8], n: u32) {
+    say(text);
+    io::print_decimal(STDERR_FILENO, n as u64);
+}
+
+fn say(text: &[u8]) {
+    io::write_all(STDERR_FILENO, text);
+}

@@ -1,0 +1,132 @@
+// The length of a chain, and the stretch of it that a target meets.
+use chain_vertices::Chain;
+use chain_vertices::onward;
+use chain_vertices::seek;
+use ieee::clamp01;
+use ieee::max_of;
+use lengths::metres;
+use stretches::Part;
+use stretches::Spot;
+use tables::StopTimes;
+use tables::Stops;
+ghost use mathlib.Core.Path.{_≡_};
+ghost use lib.ListN.{length};
+ghost use Prim.Native.Nat.{_-_};
+ghost use Rattle.stretches.specs.Part.{partLength};
+ghost use Rattle.stretches.specs.Search.{meets, fractionOf, stretchAt};
+ghost use Rattle.routes.specs.Route.{nano};
+ghost use Rattle.chain_vertices.specs.Chain.{stopOf, lineFrom};
+ghost use Rattle.chain_vertices.specs.Marks.{Marked};
+
+// a less b, and 0 where b is the greater.
+pub fn less(a: usize, b: usize) -> usize
+    ensures { λ r. ⌜ r ≡ a - b ⌝ }
+{
+    if a < b {
+        return 0;
+    }
+    a - b
+}
+
+// The length of a part of a chain of n vertices.
+pub fn length_of(
+    bytes: &[u8],
+    words: &[u32],
+    reals: &[f64],
+    s: Stops,
+    c: StopTimes,
+    chain: Chain,
+    marks: &[u64],
+    n: usize,
+    part: Part,
+) -> f64
+    requires { ⌜ Marked (stopOf (now bytes) (now words) (now reals) s c chain) (chain .count) (now marks) ⌝ }
+    requires { ⌜ n ≡ length (lineFrom (stopOf (now bytes) (now words) (now reals) s c chain) chain) ⌝ }
+    ensures { λ r. ⌜ r ≡ partLength (lineFrom (stopOf (now (bytes .entry)) (now (words .entry)) (now (reals .entry)) s c chain) chain) part ⌝ }
+{
+    let all = less(part.last, part.first);
+    let mut here = seek(bytes, words, reals, s, c, chain, marks, n, part.first);
+    let mut sum = 0.0;
+    let mut j = 0;
+    while j < all {
+        let there = onward(
+            bytes,
+            words,
+            reals,
+            s,
+            c,
+            chain,
+            marks,
+            n,
+            part.first + j,
+            here,
+        );
+        sum = sum + metres(here.at, there.at);
+        here = there;
+        j += 1;
+    }
+    sum
+}
+
+// Whether a target is on the stretch from the length `from` to the length `to`, or no more than 1e-9 past it.
+fn met(target: f64, from: f64, to: f64) -> bool
+    ensures { λ r. ⌜ r ≡ meets nano target from to ⌝ }
+{
+    if target >= from {
+        return target <= to + 0.000000001;
+    }
+    false
+}
+
+// Which fraction of that stretch is behind the target. A stretch counts as a millionth of a metre at
+// least.
+fn fraction(target: f64, from: f64, to: f64) -> f64
+    ensures { λ r. ⌜ r ≡ fractionOf target from to ⌝ }
+{
+    clamp01((target - from) / max_of(to - from, 0.000001))
+}
+
+// The first stretch of a part of a chain that a target meets.
+pub fn stretch_of(
+    bytes: &[u8],
+    words: &[u32],
+    reals: &[f64],
+    s: Stops,
+    c: StopTimes,
+    chain: Chain,
+    marks: &[u64],
+    n: usize,
+    part: Part,
+    target: f64,
+) -> Spot
+    requires { ⌜ Marked (stopOf (now bytes) (now words) (now reals) s c chain) (chain .count) (now marks) ⌝ }
+    requires { ⌜ n ≡ length (lineFrom (stopOf (now bytes) (now words) (now reals) s c chain) chain) ⌝ }
+    ensures { λ r. ⌜ r ≡ stretchAt (lineFrom (stopOf (now (bytes .entry)) (now (words .entry)) (now (reals .entry)) s c chain) chain) part nano target ⌝ }
+{
+    let all = less(part.last, part.first);
+    let mut here = seek(bytes, words, reals, s, c, chain, marks, n, part.first);
+    let mut sum = 0.0;
+    let mut j = 0;
+    while j < all {
+        let there = onward(
+            bytes,
+            words,
+            reals,
+            s,
+            c,
+            chain,
+            marks,
+            n,
+            part.first + j,
+            here,
+        );
+        let next = sum + metres(here.at, there.at);
+        if met(target, sum, next) {
+            return Spot::Stretch(part.first + j, fraction(target, sum, next));
+        }
+        sum = next;
+        here = there;
+        j += 1;
+    }
+    Spot::NoStretch
+}

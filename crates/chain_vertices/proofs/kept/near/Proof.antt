@@ -1,0 +1,22 @@
+-- `chain_vertices::kept::near` meets its contract.
+use Rattle.chain_vertices.specs.Thin.{isClose, isNear}
+use Rattle.chain_vertices.proofs.Small.{nano-is}
+use Rattle.chain_vertices.proofs.kept.near.Statement.{statement}
+use Rattle.chain_vertices.proofs.kept.near.Tie as tie
+
+abs-requires : tie.Need-abs-requires
+abs-requires c κs = tt
+
+abs-requires-2 : tie.Need-abs-requires-2
+abs-requires-2 c κs = tt
+
+returns : tie.Need-returns
+unfolding isNear isClose
+returns c = rw (← nano-is, ← c .before .before .before .before .abs .ensures, c .before .before .before .if1 .taken, c .abs2 .ensures)
+
+returns-2 : tie.Need-returns-2
+unfolding isNear isClose
+returns-2 c = rw (← nano-is, ← c .before .abs .ensures, c .if1 .left)
+
+pub near-spec : {M : Type 1} → statement M
+near-spec = tie.close (tie.spec abs-requires abs-requires-2 returns returns-2)

@@ -1,0 +1,59 @@
+// Which stops are kept: all but those that lie at the one kept last.
+use crate::stop::point_or;
+use ieee::abs;
+use lengths::Point;
+use projection::Position;
+ghost use mathlib.Core.Path.{_≡_};
+ghost use Prim.Native.Nat.{_<_};
+ghost use Rattle.chain_vertices.specs.Thin.{isNear};
+ghost use Rattle.chain_vertices.specs.Kept.{isDropped, isKept, afterOf};
+
+// How many stops are kept so far, and the last of them.
+pub struct Last {
+    pub kept: usize,
+    pub at: Point,
+}
+
+// Whether both coordinates of q are less than 1e-9 from those of p.
+fn near(p: Point, q: Point) -> bool
+    ensures { λ r. ⌜ r ≡ isNear p q ⌝ }
+{
+    if abs(p.lat - q.lat) < 0.000000001 {
+        return abs(p.lon - q.lon) < 0.000000001;
+    }
+    false
+}
+
+// Whether a point lies at the stop kept last.
+fn drops(last: Last, p: Point) -> bool
+    ensures { λ r. ⌜ r ≡ isDropped last p ⌝ }
+{
+    if 0 < last.kept {
+        return near(last.at, p);
+    }
+    false
+}
+
+// Whether a stop is kept. One without a position is not.
+pub fn keeps(last: Last, stop: Position) -> bool
+    ensures { λ r. ⌜ r ≡ isKept last stop ⌝ }
+{
+    match stop {
+        Position::Known(p) => !drops(last, p),
+        Position::Missing => false,
+    }
+}
+
+// After a stop that is kept, or is not.
+pub fn after(last: Last, stop: Position, keep: bool) -> Last
+    requires { ⌜ last .kept < 4294967296 ⌝ }
+    ensures { λ r. ⌜ r ≡ afterOf last stop keep ⌝ }
+{
+    if keep {
+        return Last {
+            kept: last.kept + 1,
+            at: point_or(stop),
+        };
+    }
+    last
+}

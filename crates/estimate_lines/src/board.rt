@@ -1,0 +1,68 @@
+// The Board's line: the estimate, silence or a refusal.
+use crate::asked;
+use case_tables::layout;
+use case_tables::limits;
+use estimate::Estimated;
+use legs::Status;
+use libc::STDOUT_FILENO;
+use voyages::Estimate;
+
+// A status, as the Rust names it.
+fn status(s: Status) {
+    match s {
+        Status::StoppedAt => {
+            io::write_all(STDOUT_FILENO, b" ESTIMATED_STOPPED_AT ");
+        }
+        Status::IncomingAt => {
+            io::write_all(STDOUT_FILENO, b" ESTIMATED_INCOMING_AT ");
+        }
+        Status::OnShape => {
+            io::write_all(STDOUT_FILENO, b" ESTIMATED_ON_SHAPE ");
+        }
+        Status::OnStopChain => {
+            io::write_all(STDOUT_FILENO, b" ESTIMATED_ON_STOP_CHAIN ");
+        }
+        Status::InTransitTo => {
+            io::write_all(STDOUT_FILENO, b" ESTIMATED_IN_TRANSIT_TO ");
+        }
+    }
+}
+
+// The 16 digits of a float's bits.
+fn double(x: f64) {
+    io::print_hex(STDOUT_FILENO, ieee::bits_of_f64(x), 16);
+}
+
+fn bearing(e: Estimate) {
+    if e.bears {
+        double(e.bearing);
+        return;
+    }
+    io::write_all(STDOUT_FILENO, b"-");
+}
+
+fn line(bytes: &[u8], words: &[u32], e: Estimate) {
+    let stops = case_tables::count(words, layout::HELD_STOPS);
+    let own = case_tables::id_column(layout::STOP_OWN, limits::STOPS, stops);
+    let at = e.status;
+    io::write_all(STDOUT_FILENO, b"(at ");
+    io::print_decimal(STDOUT_FILENO, e.sequence as u64);
+    io::write_all(STDOUT_FILENO, b" ");
+    cases::print_id(ids::id(bytes, words, own, e.stop));
+    status(at);
+    double(e.lat);
+    io::write_all(STDOUT_FILENO, b" ");
+    double(e.lon);
+    io::write_all(STDOUT_FILENO, b" ");
+    bearing(e);
+    io::write_all(STDOUT_FILENO, b")\n");
+}
+
+// Writes the line of the case that the pools hold.
+pub fn print_line(bytes: &[u8], words: &[u32], times: &[i64], reals: &[f64], dists: &[f32]) {
+    match asked(bytes, words, times, reals, dists) {
+        Estimated::At(e, _) => line(bytes, words, e),
+        Estimated::Silence => cases::print_none(),
+        Estimated::Refused(n) => cases::print_refusal(n),
+    }
+}

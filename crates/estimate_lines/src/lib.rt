@@ -1,0 +1,15 @@
+// The lines that an estimate is written by, of the case that the pools hold: the Board's, as document 01 has it, and the place's (docs/CASES.md). As programs, its
+// functions are proved safe and ending.
+mod board; // board.rt: the Board's line
+mod place; // place.rt: the place beside the estimate
+
+pub use board::print_line;
+use estimate::Estimated;
+use estimate::estimate;
+pub use place::print_place;
+
+// The estimate of the case that the pools hold.
+fn asked(bytes: &[u8], words: &[u32], times: &[i64], reals: &[f64], dists: &[f32]) -> Estimated {
+    let t = case_tables::tables(case_tables::case_of(words));
+    estimate(bytes, words, times, reals, dists, t)
+}

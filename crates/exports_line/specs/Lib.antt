@@ -1,0 +1,2 @@
+-- `Told`: answers as numbers.
+pub mod Told

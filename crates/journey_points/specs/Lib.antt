@@ -1,0 +1,2 @@
+-- `Journey`: the points of a journey.
+pub mod Journey

@@ -1,0 +1,2 @@
+-- `Causes`: what a journey is refused for.
+pub mod Causes

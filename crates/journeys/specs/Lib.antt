@@ -1,3 +1,0 @@
--- `Causes`: what a journey is refused for. `Journey`: its points.
-pub mod Causes
-pub mod Journey

@@ -1,0 +1,2 @@
+-- `Refused`: what a verdict of 0 tells.
+pub mod Refused

@@ -1,0 +1,23 @@
+use borrow.Author.Tests.{lt-ltb, le-ltb}
+use Rattle.record_refusals.specs.Verdict.{shortOf}
+use Rattle.record_refusals.proofs.short.Statement.{statement}
+use Rattle.record_refusals.proofs.short.Tie as tie
+
+returns : tie.Need-returns
+unfolding shortOf
+returns c = rw (lt-ltb _ _ (c .if1 .taken))
+
+returns-2 : tie.Need-returns-2
+unfolding shortOf
+returns-2 c = rw (le-ltb _ _ (c .before .if1 .left), lt-ltb _ _ (c .if2 .taken))
+
+returns-3 : tie.Need-returns-3
+unfolding shortOf
+returns-3 c = rw (le-ltb _ _ (c .before .before .if1 .left), le-ltb _ _ (c .before .if2 .left), lt-ltb _ _ (c .if3 .taken))
+
+returns-4 : tie.Need-returns-4
+unfolding shortOf
+returns-4 c = rw (le-ltb _ _ (c .before .before .if1 .left), le-ltb _ _ (c .before .if2 .left), le-ltb _ _ (c .if3 .left))
+
+pub short-spec : {M : Type 1} → statement M
+short-spec = tie.close (tie.spec returns returns-2 returns-3 returns-4)

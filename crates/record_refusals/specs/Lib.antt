@@ -1,0 +1,2 @@
+-- `Verdict`: the first refusal that applies to backfill of records.
+pub mod Verdict
