@@ -6,6 +6,7 @@ mod backfill_port;
 mod inputs;
 mod rust;
 mod standin;
+mod timing;
 
 use backfill_port::{Filled, Lent};
 use inputs::draw::Draw;
@@ -16,9 +17,8 @@ use rust::taken::backfill::backfill_shape_dist_traveled;
 use rust::taken::line::shape_cumulative_distances;
 use std::collections::HashMap;
 use std::hint::black_box;
-use std::time::Instant;
+use timing::{head, least};
 
-const REPETITIONS: usize = 50;
 const STOPS: usize = 100;
 
 fn line(d: &mut Draw, n: usize) -> Vec<Point> {
@@ -96,30 +96,21 @@ fn agree(got: &Filled, want: &[PackedStopTime]) -> bool {
         })
 }
 
-fn timed(pass: &mut dyn FnMut()) -> f64 {
-    let start = Instant::now();
-    pass();
-    start.elapsed().as_nanos() as f64 / 1e3
-}
-
 fn row(name: &str, w: &World) {
     let (lent, records) = (Lent::of(w), Records::of(w));
     assert!(agree(&lent.backfill(None, STOPS, STOPS), &records.backfill()), "the two differ");
-    let (mut port, mut rust) = (f64::INFINITY, f64::INFINITY);
-    for _ in 0..REPETITIONS {
-        port = port.min(timed(&mut || {
-            black_box(lent.backfill(None, STOPS, STOPS).refusal);
-        }));
-        rust = rust.min(timed(&mut || {
-            black_box(records.backfill().len());
-        }));
-    }
-    println!("{name:<44} {port:>9.1} {rust:>9.1}");
+    let mut port = || {
+        black_box(lent.backfill(None, STOPS, STOPS).refusal);
+    };
+    let mut rust = || {
+        black_box(records.backfill().len());
+    };
+    timing::row(name, least([&mut port, &mut rust]));
 }
 
 fn main() {
     let mut d = Draw::new(75);
-    println!("{:<44} {:>9} {:>9}", "microseconds a call", "port", "Rust");
+    head("microseconds a call");
     for n in [100, 1000, 8192] {
         let mut world = missing(&mut d, n);
         row(&format!("shape of {n} points, all missing"), &world);

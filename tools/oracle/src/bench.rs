@@ -1,22 +1,20 @@
 //! Nanoseconds a call, port and Rust, on the same inputs in one run.
 //!
 //! Both sides have the same C signature and are called through a pointer that the compiler cannot see through, so that both
-//! pay one call and neither is folded into the loop. Each repetition times the port and then the Rust; the table has the medians.
+//! pay one call and neither is folded into the loop.
 mod inputs;
 mod port;
 mod rust;
 mod standin;
+mod timing;
 
 use inputs::draw::Draw;
 use inputs::pairs;
 use rust::taken::estimate;
 use std::hint::black_box;
-use std::time::Instant;
+use timing::{head, least, row};
 
 const INPUTS: usize = 4096;
-const REPETITIONS: usize = 15;
-/// What one repetition of one side should take, in nanoseconds.
-const ENOUGH: f64 = 20e6;
 
 // The Rust, with the port's signatures
 
@@ -84,36 +82,19 @@ fn pass_two(f: unsafe extern "C" fn(f64, f64) -> f64, inputs: &[[f64; 2]]) -> u6
     inputs.iter().fold(0, |sum, &[x, y]| fold(sum, unsafe { f(x, y) }.to_bits()))
 }
 
-// Timing
-
-/// Nanoseconds of that many passes.
-fn timed(pass: &dyn Fn() -> u64, passes: usize) -> f64 {
-    let start = Instant::now();
-    for _ in 0..passes {
-        black_box(pass());
-    }
-    start.elapsed().as_nanos() as f64
-}
-
-fn median(mut times: Vec<f64>) -> f64 {
-    times.sort_by(f64::total_cmp);
-    times[times.len() / 2]
-}
-
 /// Prints a line of the table; says whether the two sides' checksums agree.
 fn line(name: &str, port: &dyn Fn() -> u64, rust: &dyn Fn() -> u64) -> bool {
-    let once = timed(port, 2).max(timed(rust, 2)) / 2.0;
-    let passes = (ENOUGH / once).ceil() as usize;
-    let (mut port_times, mut rust_times) = (Vec::new(), Vec::new());
-    for _ in 0..REPETITIONS {
-        port_times.push(timed(port, passes));
-        rust_times.push(timed(rust, passes));
-    }
-    let calls = (passes * INPUTS) as f64;
-    let (port_ns, rust_ns) = (median(port_times) / calls, median(rust_times) / calls);
+    let mut port_pass = || {
+        black_box(port());
+    };
+    let mut rust_pass = || {
+        black_box(rust());
+    };
+    row(name, least([&mut port_pass, &mut rust_pass]).map(|time| time * 1e3 / INPUTS as f64));
     let agree = port() == rust();
-    let note = if agree { "" } else { "   CHECKSUMS DIFFER" };
-    println!("{name:<12} {port_ns:>9.1} {rust_ns:>9.1} {:>7.2}{note}", port_ns / rust_ns);
+    if !agree {
+        println!("    the checksums differ");
+    }
     agree
 }
 
@@ -130,7 +111,7 @@ fn main() {
     let lengths = black_box(drawn(67, |d| [d.between(0.0, 1e6)]));
     let angles = black_box(drawn(68, |d| [d.between(-3.2, 3.2)]));
     let points = black_box(drawn(69, |d| [d.between(-1.0, 1.0), d.between(-1.0, 1.0)]));
-    println!("{:<12} {:>9} {:>9} {:>7}", "", "port ns", "Rust ns", "ratio");
+    head("nanoseconds a call");
     let agree = [
         line("haversine", &|| pass_measure(port::zebumorn_haversine_m, &pairs), &|| {
             pass_measure(rust_haversine, &pairs)

@@ -7,6 +7,7 @@ mod drawn;
 mod inputs;
 mod rust;
 mod standin;
+mod timing;
 
 use drawn::lay::Laid;
 use drawn::legs::{Asked, World};
@@ -14,9 +15,8 @@ use inputs::draw::Draw;
 use inputs::lines::Point;
 use rust::taken::drawing as rust_drawing;
 use std::hint::black_box;
-use std::time::Instant;
+use timing::{head, least, row};
 
-const REPETITIONS: usize = 200;
 const STOPS: usize = 100;
 
 fn line(d: &mut Draw, n: usize) -> Vec<Point> {
@@ -46,15 +46,9 @@ fn world(d: &mut Draw, n: usize, shaped: bool) -> World {
     }
 }
 
-fn timed(pass: &mut dyn FnMut()) -> f64 {
-    let start = Instant::now();
-    pass();
-    start.elapsed().as_nanos() as f64 / 1e3
-}
-
 fn main() {
     let mut d = Draw::new(74);
-    println!("{:<44} {:>9} {:>9}", "microseconds a leg", "port", "Rust");
+    head("microseconds a leg");
     for (n, shaped) in [(100, true), (1000, true), (8192, true), (100, false)] {
         let world = world(&mut d, n, shaped);
         let (epoch, mut laid) = (world.epoch(), Laid::of_world(&world));
@@ -63,17 +57,19 @@ fn main() {
             laid.ask(&asked);
             let want = rust_drawing::leg_geometry(&epoch, "a", 0, to);
             assert!(laid.leg_geometry(0, to, n, n).is(&want), "the two differ");
-            let (mut port, mut rust) = (f64::INFINITY, f64::INFINITY);
-            for _ in 0..REPETITIONS {
-                port = port.min(timed(&mut || {
-                    black_box(laid.leg_geometry(0, to, n, n).points);
-                }));
-                rust = rust.min(timed(&mut || {
-                    black_box(rust_drawing::leg_geometry(&epoch, "a", 0, to).len());
-                }));
-            }
-            let name = if shaped { format!("shape of {n} points, stop 0 to {to}") } else { format!("no shape, stop 0 to {to}") };
-            println!("{name:<44} {port:>9.1} {rust:>9.1}");
+            let mut port = || {
+                black_box(laid.leg_geometry(0, to, n, n).points);
+            };
+            let mut rust = || {
+                black_box(rust_drawing::leg_geometry(&epoch, "a", 0, to).len());
+            };
+            let times = least([&mut port, &mut rust]);
+            let name = if shaped {
+                format!("shape of {n} points, stop 0 to {to}")
+            } else {
+                format!("no shape, stop 0 to {to}")
+            };
+            row(&name, times);
         }
     }
 }

@@ -12,6 +12,7 @@ mod estimate_port;
 mod lent;
 mod met;
 mod standin;
+mod timing;
 
 include!(env!("ORACLE_TAKEN"));
 
@@ -23,9 +24,8 @@ use gtfs::pack::StaticEpoch;
 use rt::estimate::estimate_vehicle_pos;
 use rt::overlay::TripRt;
 use std::hint::black_box;
-use std::time::Instant;
+use timing::{head, least};
 
-const REPETITIONS: usize = 40;
 const STOPS: usize = 100;
 const LEGS: usize = 16;
 /// Seconds at a stop, and from a stop to the next.
@@ -86,12 +86,6 @@ fn case(d: &mut Draw, points: Option<usize>, measured: bool, updates: &[usize]) 
     case
 }
 
-fn timed(pass: &mut dyn FnMut()) -> f64 {
-    let start = Instant::now();
-    pass();
-    start.elapsed().as_nanos() as f64 / 1e3
-}
-
 /// Both sides: for each clock the least of the repetitions, on the mean over the clocks.
 fn row(name: &str, case: &mut Case, clocks: &[i64]) {
     let epoch = asked::epoch(case);
@@ -104,21 +98,17 @@ fn row(name: &str, case: &mut Case, clocks: &[i64]) {
         let line = estimate_port::estimate(&laid).line(case);
         assert_eq!(line, asked::board(case, &epoch), "the two differ");
         let now = lent::moment(now).expect("a moment");
-        let (mut ours, mut theirs) = (f64::INFINITY, f64::INFINITY);
-        for _ in 0..REPETITIONS {
-            ours = ours.min(timed(&mut || {
-                black_box(estimate_port::estimate(&laid).lat);
-            }));
-            theirs = theirs.min(timed(&mut || {
-                black_box(
-                    estimate_vehicle_pos(&case.feed, &case.trip, &sailing, &epoch, now).expect("an estimate").lat,
-                );
-            }));
-        }
+        let mut ours = || {
+            black_box(estimate_port::estimate(&laid).lat);
+        };
+        let mut theirs = || {
+            black_box(estimate_vehicle_pos(&case.feed, &case.trip, &sailing, &epoch, now).expect("an estimate").lat);
+        };
+        let [ours, theirs] = least([&mut ours, &mut theirs]);
         port += ours / clocks.len() as f64;
         rust += theirs / clocks.len() as f64;
     }
-    println!("{name:<52} {port:>9.1} {rust:>9.1} {:>7.2}", port / rust);
+    timing::row(name, [port, rust]);
 }
 
 fn main() {
@@ -128,7 +118,7 @@ fn main() {
     let between: Vec<i64> = legs.iter().map(|&k| arrival(k) + DWELL + RUN / 3).collect();
     let one = [STOPS / 2];
     let before: Vec<i64> = (0..LEGS as i64).map(|k| arrival(one[0]) - 60 - 10 * k).collect();
-    println!("{:<52} {:>9} {:>9} {:>7}", "microseconds an estimate", "port", "Rust", "ratio");
+    head("microseconds an estimate");
     for points in [None, Some(100), Some(1000), Some(8192)] {
         let shape = points.map_or("no shape".to_string(), |n| format!("shape of {n} points"));
         for measured in [true, false] {

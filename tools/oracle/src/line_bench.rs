@@ -1,24 +1,23 @@
 //! Nanoseconds a vertex of the line, port and Rust, on the same lines in one run.
 //!
-//! Each repetition times the port and then the Rust; the table has the least of each, so that a busy machine matters little. A line goes onward, its vertices some 60 metres apart. A trip has
+//! A line goes onward, its vertices some 60 metres apart. A trip has
 //! twenty stops, each some metres from a vertex, in order; a single stop is beside any vertex. The Rust lists every length to answer for one. Walks are
-//! at twenty fractions from 0 to 1: over the whole line, by distance and by its own length, and over its middle half, between two stops.
+//! at twenty fractions from 0 to 1: over the whole line, by distance and by its own length, and over its middle half, between two stops. Calibration is from samples at both ends,
+//! with the lengths that it takes.
 mod inputs;
 mod line_port;
 mod rust;
 mod standin;
+mod timing;
 
 use inputs::draw::Draw;
 use inputs::lines::Point;
 use line_port::{Columns, Drawn};
 use rust::taken::{by_distance, line as rust_line, polyline};
 use std::hint::black_box;
-use std::time::Instant;
+use timing::{head, least};
 
-const REPETITIONS: usize = 400;
 const STOPS: usize = 20;
-/// What one repetition of one side should take, in nanoseconds.
-const ENOUGH: f64 = 3e5;
 
 fn line(d: &mut Draw, n: usize) -> Vec<Point> {
     let mut p = (43.0, 5.0);
@@ -34,33 +33,19 @@ fn beside(d: &mut Draw, p: Point) -> Point {
     (p.0 + d.between(-1e-4, 1e-4), p.1 + d.between(-1e-4, 1e-4))
 }
 
-/// Nanoseconds of that many passes.
-fn timed(pass: &dyn Fn() -> u64, passes: usize) -> f64 {
-    let start = Instant::now();
-    for _ in 0..passes {
-        black_box(pass());
-    }
-    start.elapsed().as_nanos() as f64
-}
-
-fn least(times: Vec<f64>) -> f64 {
-    times.into_iter().fold(f64::INFINITY, f64::min)
-}
-
 /// Prints a line of the table; says whether the two sides' checksums agree. A pass goes over so many vertices.
 fn row(name: &str, vertices: usize, port: &dyn Fn() -> u64, rust: &dyn Fn() -> u64) -> bool {
-    let once = timed(port, 2).max(timed(rust, 2)) / 2.0;
-    let passes = (ENOUGH / once).ceil() as usize;
-    let (mut port_times, mut rust_times) = (Vec::new(), Vec::new());
-    for _ in 0..REPETITIONS {
-        port_times.push(timed(port, passes));
-        rust_times.push(timed(rust, passes));
-    }
-    let all = (passes * vertices) as f64;
-    let (port_ns, rust_ns) = (least(port_times) / all, least(rust_times) / all);
+    let mut port_pass = || {
+        black_box(port());
+    };
+    let mut rust_pass = || {
+        black_box(rust());
+    };
+    timing::row(name, least([&mut port_pass, &mut rust_pass]).map(|time| time * 1e3 / vertices as f64));
     let agree = port() == rust();
-    let note = if agree { "" } else { "   CHECKSUMS DIFFER" };
-    println!("{name:<28} {port_ns:>9.1} {rust_ns:>9.1} {:>7.2}{note}", port_ns / rust_ns);
+    if !agree {
+        println!("    the checksums differ");
+    }
     agree
 }
 
@@ -71,6 +56,11 @@ fn fold(sum: u64, n: usize) -> u64 {
 fn fold_drawn(sum: u64, drawn: Drawn) -> u64 {
     let (lat, lon, bearing) = drawn.unwrap_or((1.0, 2.0, 3.0));
     [lat, lon, bearing].iter().fold(sum, |sum, x| fold(sum, x.to_bits() as usize))
+}
+
+fn fold_affine(affine: Option<(f64, f64)>) -> u64 {
+    let (start, scale) = affine.expect("a calibration");
+    fold(fold(0, start.to_bits() as usize), scale.to_bits() as usize)
 }
 
 /// The operations on a line of n vertices.
@@ -87,6 +77,7 @@ fn rows(n: usize) -> bool {
     let fractions: Vec<f64> = (0..STOPS).map(|k| k as f64 / STOPS as f64 + 0.01).collect();
     let walk = |f: &dyn Fn(f64) -> Drawn| fractions.iter().fold(0, |sum, &x| fold_drawn(sum, f(x)));
     let end = columns.length_to(n - 1) as f32;
+    let (first, last) = ((0.0, beside(&mut d, line[0])), (end as f64, beside(&mut d, line[n - 1])));
     let (prev, next) = (beside(&mut d, line[n / 4]), beside(&mut d, line[3 * n / 4]));
     let all = [
         row(&format!("by_dist {n}"), over, &|| walk(&|f| columns.interpolate_shape_by_dist(0.0, end, f)), &|| {
@@ -110,6 +101,10 @@ fn rows(n: usize) -> bool {
         row(&format!("trip {n}"), over, &|| list(columns.project(&trip)), &|| {
             list(rust_line::project_stops_monotonic(&line, &trip))
         }),
+        row(&format!("calibration {n}"), n, &|| fold_affine(columns.shape_dist_affine(first, last)), &|| {
+            let lengths = rust_line::shape_cumulative_distances(&line);
+            fold_affine(rust_line::shape_dist_affine(&line, &lengths, &[first, last]))
+        }),
         row(&format!("length_to {n}"), n, &|| columns.length_to(n - 1).to_bits(), &|| {
             rust_line::shape_cumulative_distances(&line)[n - 1].to_bits()
         }),
@@ -118,7 +113,7 @@ fn rows(n: usize) -> bool {
 }
 
 fn main() {
-    println!("{:<28} {:>9} {:>9} {:>7}", "", "port ns", "Rust ns", "ratio");
+    head("nanoseconds a vertex");
     let agree = [2, 100, 1000, 8192].map(rows);
     std::process::exit(agree.contains(&false) as i32);
 }

@@ -1,16 +1,14 @@
 //! Bytes a second of each pass over a column, beside a plain read of the same memory in the same run.
 //!
 //! The tables are as large as document 01 lets them be: 65,535 stops, 1,000,000 stop times; and 5,000,000 points. No row is at fault, so each pass
-//! reads all of its columns. Each line is the median of the repetitions.
+//! reads all of its columns.
+mod timing;
+
 use std::hint::black_box;
-use std::time::Instant;
 
 const STOPS: usize = 65_535;
 const CALLS: usize = 1_000_000;
 const POINTS: usize = 5_000_000;
-const REPETITIONS: usize = 9;
-/// What one repetition should take, in nanoseconds.
-const ENOUGH: f64 = 20e6;
 
 extern "C" {
     fn zebumorn_reaches(s: *const u32, n: usize, flags: *const u8, m: usize, all: bool, bound: u64) -> bool;
@@ -49,22 +47,13 @@ extern "C" {
     fn zebumorn_ids_unsorted(bytes: *const u8, b: usize, words: *const u32, n: usize, rows: u32) -> bool;
 }
 
-/// Nanoseconds of one call, the median of the repetitions.
+/// Nanoseconds of one call.
 fn timed(pass: &dyn Fn() -> u64) -> f64 {
-    let start = Instant::now();
-    black_box(pass());
-    let passes = (ENOUGH / start.elapsed().as_nanos().max(1) as f64).ceil() as usize;
-    let mut times: Vec<f64> = (0..REPETITIONS)
-        .map(|_| {
-            let start = Instant::now();
-            for _ in 0..passes {
-                black_box(pass());
-            }
-            start.elapsed().as_nanos() as f64 / passes as f64
-        })
-        .collect();
-    times.sort_by(f64::total_cmp);
-    times[times.len() / 2]
+    let mut pass = || {
+        black_box(pass());
+    };
+    let [time] = timing::least([&mut pass]);
+    time * 1e3
 }
 
 /// Reads that many bytes, a word at a time.
@@ -110,16 +99,7 @@ fn main() {
                 zebumorn_not_finite(distances.as_ptr(), CALLS, flags.as_ptr(), CALLS, false)
             }),
             line("row ranges within a table", STOPS, STOPS * 8, &memory, &|| {
-                zebumorn_ends_past(
-                    numbers.as_ptr(),
-                    STOPS,
-                    ones.as_ptr(),
-                    STOPS,
-                    none.as_ptr(),
-                    0,
-                    true,
-                    CALLS as u64,
-                )
+                zebumorn_ends_past(numbers.as_ptr(), STOPS, ones.as_ptr(), STOPS, none.as_ptr(), 0, true, CALLS as u64)
             }),
             line("ids of bytes 32 to 126", STOPS, STOPS * 24, &memory, &|| {
                 zebumorn_bad_ids(

@@ -12,7 +12,7 @@ pub struct Span {
 pub const COLUMNS: usize = 78;
 
 /// The first column of each table, in the order of the structs.
-mod column {
+pub mod column {
     pub const STOPS: usize = 0;
     pub const STOP_IDS: usize = 7;
     pub const TRIPS: usize = 10;
@@ -40,6 +40,11 @@ pub struct Laid {
     pub times: Vec<i64>,
     pub reals: Vec<f64>,
     pub dists: Vec<f32>,
+}
+
+/// The first row of each, where so many lie one after the other.
+fn firsts(counts: impl Iterator<Item = usize>) -> impl Iterator<Item = u32> {
+    counts.scan(0, |next, count| Some(std::mem::replace(next, *next + count as u32)))
 }
 
 impl Laid {
@@ -110,13 +115,12 @@ impl Laid {
     fn lay_trips(&mut self, case: &Case) {
         use column::{STOP_TIMES, TRIPS, TRIP_IDS};
         let trips = &case.trips;
-        let first = |k: usize| trips[..k].iter().map(|trip| trip.calls.len() as u32).sum();
         self.ids(TRIPS, trips.iter().map(|trip| trip.feed.as_str()));
         self.ids(TRIPS + 2, trips.iter().map(|trip| trip.service.as_str()));
         self.words(TRIPS + 4, trips.iter().map(|trip| trip.shape.unwrap_or(u32::MAX)));
         self.flags(TRIPS + 5, trips.iter().map(|trip| trip.shape.is_some() as u8));
         self.flags(TRIPS + 6, trips.iter().map(|trip| trip.frequency as u8));
-        self.words(TRIPS + 7, (0..trips.len()).map(first));
+        self.words(TRIPS + 7, firsts(trips.iter().map(|trip| trip.calls.len())));
         self.words(TRIPS + 8, trips.iter().map(|trip| trip.calls.len() as u32));
         self.id_rows(TRIP_IDS, trips.iter().map(|trip| trip.id.clone()), &case.trip_keys);
         let calls: Vec<&Call> = trips.iter().flat_map(|trip| &trip.calls).collect();
@@ -132,9 +136,8 @@ impl Laid {
     fn lay_shapes(&mut self, case: &Case) {
         use column::{POINTS, SHAPES};
         let shapes = &case.shapes;
-        let first = |k: usize| shapes[..k].iter().map(|shape| shape.points.len() as u32).sum();
         self.ids(SHAPES, shapes.iter().map(|shape| shape.id.as_str()));
-        self.words(SHAPES + 2, (0..shapes.len()).map(first));
+        self.words(SHAPES + 2, firsts(shapes.iter().map(|shape| shape.points.len())));
         self.words(SHAPES + 3, shapes.iter().map(|shape| shape.points.len() as u32));
         self.reals(POINTS, shapes.iter().flat_map(|shape| &shape.points).map(|point| point.0));
         self.reals(POINTS + 1, shapes.iter().flat_map(|shape| &shape.points).map(|point| point.1));
