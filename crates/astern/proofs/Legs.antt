@@ -17,8 +17,8 @@ use Rattle.legs.specs.declared.path.End.{End}
 use Rattle.legs.proofs.Agree.{agrees}
 use Rattle.legs.proofs.Chosen.{path-few}
 use Rattle.legs.proofs.Onward.{never-earlier}
-use Rattle.walks.specs.Leg.{legCount, legSpan, legShape, legStops}
-use Rattle.walks.proofs.Legs.{chain-few, path-is-chosen}
+use Rattle.leg_paths.specs.Leg.{legCount, legSpan, legShape, legStops}
+use Rattle.leg_paths.proofs.Legs.{chain-few, path-is-chosen}
 use Rattle.previous.specs.Before.{prevRow}
 use Rattle.calls.specs.Calls.{reportedOf, callRows, callStops}
 use Rattle.sailings.specs.Sailing.{sailingTrip}

@@ -22,12 +22,13 @@ use Rattle.columns.specs.Text.{badByteAt, badText, badId, badIdAt}
 use Rattle.tables.specs.Pools.{Pools}
 use Rattle.tables.specs.Refuse.{chartBounds, refusalOf, failsOf, leastOf, joined}
 use Rattle.tables.specs.declared.lent.Tables.{Tables}
-use Rattle.checks.specs.Operations.{estimateCauses, geometryCauses, tripLookupCauses, calendarTablesCauses}
+use Rattle.geometry_checks.specs.Operations.{geometryCauses}
+use Rattle.checks.specs.Operations.{estimateCauses, tripLookupCauses, calendarTablesCauses}
 use Rattle.legs.specs.declared.path.End.{End}
 use Rattle.stop_ids.specs.Stops.{textKeys, stopKeys, isPositioned, stopAt, firstStop, namedStop, stopOf}
 use Rattle.calls.specs.Calls.{reportedOf, updateStop, callStop, callRows, callStops, callArrivals, callDepartures}
-use Rattle.calls.specs.Rows.{passing}
-use Rattle.calls.specs.Updates.{momentAt, momentOr, isSet, isTimed}
+use Rattle.update_rows.specs.Rows.{passing}
+use Rattle.update_rows.specs.Updates.{momentAt, momentOr, isSet, isTimed}
 use Rattle.sailings.specs.Sailing.{sailingTrip}
 use Rattle.ieee.specs.Number.{clamp01Of}
 use Rattle.stretches.specs.Drawing.{betweenOf}

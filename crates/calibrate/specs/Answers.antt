@@ -9,7 +9,7 @@ use Rattle.tables.specs.Refuse.{chartBounds, refusalOf}
 use Rattle.tables.specs.declared.lent.Points.{Points}
 use Rattle.tables.specs.declared.lent.Samples.{Samples}
 use Rattle.answers.specs.Answers.{unlessRefused}
-use Rattle.checks.specs.Operations.{calibrationCauses}
+use Rattle.geometry_checks.specs.Operations.{calibrationCauses}
 use Rattle.calibration.specs.Samples.{samplesAffine, samplesOf}
 use Rattle.calibration.specs.Scale.{snapUnitScale}
 use Rattle.calibration.specs.declared.affine.Calibrated.{Calibrated}

@@ -2,7 +2,7 @@
 use calibration::Affine;
 use calibration::Calibrated;
 use calibration::samples_affine;
-use checks::check_calibration;
+use geometry_checks::check_calibration;
 use tables::Bounds;
 use tables::Samples;
 use tables::dists_of;

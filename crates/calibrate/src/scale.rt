@@ -1,5 +1,5 @@
 // The unit that a ratio is near.
-use checks::check_calibration;
+use geometry_checks::check_calibration;
 use tables::Bounds;
 use tables::Samples;
 use tables::reals_of;

@@ -12,8 +12,8 @@ use Rattle.ids.specs.declared.lookup.Found.the-variants.{Nothing}
 use Rattle.refs.specs.Refs.{baseOf}
 use Rattle.tables.specs.declared.lent.Tables.{Tables}
 use Rattle.stop_ids.specs.Stops.{Known, stopOf}
-use Rattle.calls.specs.Rows.{passing}
-use Rattle.calls.specs.Updates.{isSet, isTimed, arrivalOf, departureOf}
+use Rattle.update_rows.specs.Rows.{passing}
+use Rattle.update_rows.specs.Updates.{isSet, isTimed, arrivalOf, departureOf}
 use Rattle.calls.specs.declared.stop.Reported.{Reported}
 
 module _ (bytes words : List ℕ) (v : Reported) where

@@ -1,8 +1,8 @@
 // Which rows of the updates are calls: those with a time whose stop is found.
 use crate::stop::Reported;
 use crate::stop::update_stop;
-use crate::update::is_timed;
 use ids::Found;
+use update_rows::is_timed;
 ghost use Prim.Native.Nat.{_<_, _≤_};
 ghost use mathlib.Core.Path.{_≡_};
 ghost use mathlib.Core.List.{_++_};

@@ -1,10 +1,10 @@
 // The stop that a row of the updates means.
-use crate::update::is_set;
 use ids::Found;
 use stop_ids::Lookup;
 use stop_ids::stop_of;
 use tables::Sailing;
 use tables::Updates;
+use update_rows::is_set;
 ghost use Prim.Native.Nat.{_<_};
 ghost use mathlib.Core.Path.{_≡_};
 ghost use Rattle.calls.specs.Calls.{Ready, updateStop};

@@ -1,8 +1,7 @@
 // Each form by its name. A line that is no form may leave a row half written: then the text is no case, and nothing of it is read.
-use crate::calendars;
-use crate::keys;
 use crate::sailing;
 use crate::statics;
+use case_lookups::read_lookup;
 use case_tables::count;
 use case_tables::layout;
 use case_tables::put;
@@ -35,21 +34,7 @@ fn of_sailing(
     }
 }
 
-// A form of what rows are looked up by.
-fn of_lookups(s: &[u8], bytes: &mut [u8], words: &mut [u32], form: Form, row: u32) -> Why {
-    match form {
-        Form::StopKey => keys::stop_key(s, bytes, words, row),
-        Form::StaticKey => keys::static_key(s, bytes, words, row),
-        Form::Alias => keys::alias(s, bytes, words, row),
-        Form::Line => keys::line_token(s, bytes, words, row),
-        Form::Calendar => calendars::calendar(s, bytes, words, row),
-        Form::Range => calendars::range(s, bytes, words, row),
-        Form::Exception => calendars::exception(s, bytes, words, row),
-        _ => Why::Name,
-    }
-}
-
-// A form of stops, static trips and shapes.
+// A form of stops, static trips and shapes, or of what rows are looked up by.
 fn of_statics(
     s: &[u8],
     bytes: &mut [u8],
@@ -65,7 +50,7 @@ fn of_statics(
         Form::Call => statics::call(s, bytes, words, dists, row),
         Form::Shape => statics::shape(s, bytes, words, row),
         Form::Point => statics::point(s, words, reals, row),
-        _ => of_lookups(s, bytes, words, form, row),
+        _ => read_lookup(s, bytes, words, form, row),
     }
 }
 

@@ -4,18 +4,16 @@ use lib.Dec.{T}
 use Rattle.tables.specs.Pools.{Pools}
 use Rattle.tables.specs.Refuse.{joined, refusalOf}
 use Rattle.tables.specs.declared.bounds.Bounds.{Bounds}
-use Rattle.tables.specs.declared.lent.Along.{Along}
 use Rattle.tables.specs.declared.lent.Journey.{Journey}
-use Rattle.tables.specs.declared.lent.LegAsked.{LegAsked}
-use Rattle.tables.specs.declared.lent.Samples.{Samples}
 use Rattle.tables.specs.declared.lent.Service.{Service}
 use Rattle.tables.specs.declared.lent.Tables.{Tables}
 use Rattle.tables.proofs.Passed.{numbered, Clear, clear-at, not-refused}
-use Rattle.schedule_rules.specs.Parts.{callTimesCauses, callsCauses, placingCauses, stopsCauses, tripsCauses}
-use Rattle.shape_rules.specs.Parts.{lineCauses, measuresCauses, pointsCauses, pointsWithinCauses, shapesCauses}
+use Rattle.schedule_rules.specs.Parts.{callTimesCauses, callsCauses, tripsCauses}
 use Rattle.lookup_rules.specs.Parts.{aliasesCauses, calendarsCauses, exceptionsCauses, idRowsCauses, linesCauses, rangesCauses}
-use Rattle.asked_rules.specs.Parts.{arrivalsCauses, journeyCauses, legAskedCauses, sailingCauses, serviceCauses, updateDeparturesCauses, updatesCauses}
-use Rattle.checks.specs.Operations.{calendarTablesCauses, tripLookupCauses, geometryCauses, legCauses, serviceDayCauses, matchingCauses, estimateCauses, interpolationCauses, calibrationCauses}
+use Rattle.asked_rules.specs.Parts.{arrivalsCauses, journeyCauses, sailingCauses, serviceCauses, updateDeparturesCauses, updatesCauses}
+use Rattle.geometry_checks.specs.Operations.{geometryCauses}
+use Rattle.geometry_checks.proofs.Operations.{Geometry, geometry-parts}
+use Rattle.checks.specs.Operations.{calendarTablesCauses, tripLookupCauses, serviceDayCauses, matchingCauses, estimateCauses}
 
 module _ (p : Pools) where
   -- the calendar tables
@@ -37,43 +35,6 @@ module _ (p : Pools) where
   lookup-parts : (b : Bounds) (t : Tables) → Clear p (tripLookupCauses b t) → Lookup b t
   unfolding tripLookupCauses
   lookup-parts b t h = let at = clear-at p _ h in record { trip-ids = at 0; aliases = at 1; lines = at 2 }
-
-  -- projection and backfill
-  pub record Geometry (b : Bounds) (t : Tables) : Type 0 where
-    pub stops : Clear p (stopsCauses b (t .stops))
-    pub trips : Clear p (tripsCauses b (t .trips) (t .times .stop .n))
-    pub calls : Clear p (callsCauses b (t .times))
-    pub placing : Clear p (placingCauses (t .trips) (t .times) (t .shapes .first .n) (t .stops .lat .n))
-    pub shapes : Clear p (shapesCauses b (t .shapes) (t .points .lat .n))
-    pub points : Clear p (pointsCauses (t .points))
-
-  geometry-parts : (b : Bounds) (t : Tables) → Clear p (geometryCauses b t) → Geometry b t
-  unfolding geometryCauses
-  geometry-parts b t h = let at = clear-at p _ h in record { stops = at 0; trips = at 1; calls = at 2; placing = at 3; shapes = at 4; points = at 5 }
-
-  geometry-numbered : (b : Bounds) (t : Tables) → T (numbered (geometryCauses b t))
-  unfolding geometryCauses joined
-  geometry-numbered b t = tt
-
-  pub geometry-holds : (b : Bounds) (t : Tables) → refusalOf p (geometryCauses b t) ≡ 0 → Geometry b t
-  geometry-holds b t e = geometry-parts b t (not-refused p _ (geometry-numbered b t) e)
-
-  -- leg drawing
-  pub record Leg (b : Bounds) (t : Tables) (l : LegAsked) : Type 0 where
-    pub geometry : Geometry b t
-    pub trip-ids : Clear p (idRowsCauses b (t .tripkeys) (b .trips) (t .trips .first .n))
-    pub asked : Clear p (legAskedCauses b l)
-
-  leg-parts : (b : Bounds) (t : Tables) (l : LegAsked) → Clear p (legCauses b t l) → Leg b t l
-  unfolding legCauses
-  leg-parts b t l h = let at = clear-at p _ h in record { geometry = geometry-parts b t (at 0); trip-ids = at 1; asked = at 2 }
-
-  leg-numbered : (b : Bounds) (t : Tables) (l : LegAsked) → T (numbered (legCauses b t l))
-  unfolding legCauses geometryCauses joined
-  leg-numbered b t l = tt
-
-  pub leg-holds : (b : Bounds) (t : Tables) (l : LegAsked) → refusalOf p (legCauses b t l) ≡ 0 → Leg b t l
-  leg-holds b t l e = leg-parts b t l (not-refused p _ (leg-numbered b t l) e)
 
   -- whether a service runs
   pub record ServiceDay (b : Bounds) (t : Tables) (s : Service) : Type 0 where
@@ -113,7 +74,7 @@ module _ (p : Pools) where
 
   -- the estimate
   pub record Estimate (b : Bounds) (t : Tables) : Type 0 where
-    pub geometry : Geometry b t
+    pub geometry : Geometry p b t
     pub call-times : Clear p (callTimesCauses (t .times))
     pub stop-ids : Clear p (idRowsCauses b (t .stopkeys) (b .stops) (t .stops .lat .n))
     pub lookup : Lookup b t
@@ -125,7 +86,7 @@ module _ (p : Pools) where
 
   estimate-parts : (b : Bounds) (t : Tables) → Clear p (estimateCauses b t) → Estimate b t
   unfolding estimateCauses
-  estimate-parts b t h = let at = clear-at p _ h in record { geometry = geometry-parts b t (at 0); call-times = at 1; stop-ids = at 2; lookup = lookup-parts b t (at 3); calendar = calendar-parts b t (at 4); updates = at 5; arrivals = at 6; departures = at 7; sailing = at 8 }
+  estimate-parts b t h = let at = clear-at p _ h in record { geometry = geometry-parts p b t (at 0); call-times = at 1; stop-ids = at 2; lookup = lookup-parts b t (at 3); calendar = calendar-parts b t (at 4); updates = at 5; arrivals = at 6; departures = at 7; sailing = at 8 }
 
   estimate-numbered : (b : Bounds) (t : Tables) → T (numbered (estimateCauses b t))
   unfolding estimateCauses calendarTablesCauses geometryCauses tripLookupCauses joined
@@ -133,37 +94,3 @@ module _ (p : Pools) where
 
   pub estimate-holds : (b : Bounds) (t : Tables) → refusalOf p (estimateCauses b t) ≡ 0 → Estimate b t
   estimate-holds b t e = estimate-parts b t (not-refused p _ (estimate-numbered b t) e)
-
-  -- interpolation alone
-  pub record Interpolation (b : Bounds) (a : Along) : Type 0 where
-    pub line : Clear p (lineCauses b (a .line))
-    pub ends : Clear p (pointsCauses (a .ends))
-    pub measures : Clear p (measuresCauses (a .dists) (a .numbers) (a .dists .n))
-
-  interpolation-parts : (b : Bounds) (a : Along) → Clear p (interpolationCauses b a) → Interpolation b a
-  unfolding interpolationCauses
-  interpolation-parts b a h = let at = clear-at p _ h in record { line = at 0; ends = at 1; measures = at 2 }
-
-  interpolation-numbered : (b : Bounds) (a : Along) → T (numbered (interpolationCauses b a))
-  unfolding interpolationCauses joined
-  interpolation-numbered b a = tt
-
-  pub interpolation-holds : (b : Bounds) (a : Along) → refusalOf p (interpolationCauses b a) ≡ 0 → Interpolation b a
-  interpolation-holds b a e = interpolation-parts b a (not-refused p _ (interpolation-numbered b a) e)
-
-  -- calibration alone
-  pub record Calibration (b : Bounds) (s : Samples) : Type 0 where
-    pub line : Clear p (lineCauses b (s .line))
-    pub samples : Clear p (pointsWithinCauses (s .at) (b .calls))
-    pub measures : Clear p (measuresCauses (s .dist) (s .numbers) (s .at .lat .n))
-
-  calibration-parts : (b : Bounds) (s : Samples) → Clear p (calibrationCauses b s) → Calibration b s
-  unfolding calibrationCauses
-  calibration-parts b s h = let at = clear-at p _ h in record { line = at 0; samples = at 1; measures = at 2 }
-
-  calibration-numbered : (b : Bounds) (s : Samples) → T (numbered (calibrationCauses b s))
-  unfolding calibrationCauses joined
-  calibration-numbered b s = tt
-
-  pub calibration-holds : (b : Bounds) (s : Samples) → refusalOf p (calibrationCauses b s) ≡ 0 → Calibration b s
-  calibration-holds b s e = calibration-parts b s (not-refused p _ (calibration-numbered b s) e)

@@ -1,7 +1,5 @@
 // The estimate.
 use calls::collect;
-use calls::fill_arrivals;
-use calls::fill_departures;
 use checks::check_estimate;
 use legs::Place;
 use plans::at_turn;
@@ -11,6 +9,8 @@ use sailings::clock;
 use sailings::is_cancelled;
 use tables::Bounds;
 use tables::Tables;
+use update_rows::fill_arrivals;
+use update_rows::fill_departures;
 use voyages::Estimate;
 use voyages::Outcome;
 ghost use mathlib.Core.Path.{_≡_};

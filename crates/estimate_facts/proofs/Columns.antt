@@ -20,7 +20,7 @@ use Rattle.tables.proofs.Passed.{Clear, clear-drop}
 use Rattle.lookup_rules.specs.Parts.{idRowsCauses}
 use Rattle.lookup_rules.proofs.Parts.{row-ids, rows-below}
 use Rattle.timetable.proofs.Holds.{flag-counts}
-use Rattle.calls.specs.Updates.{isSet, momentOf, momentAt}
+use Rattle.update_rows.specs.Updates.{isSet, momentOf, momentAt}
 
 -- a moment is no later than the time that it is read from
 moment-by : (z : ℤ) (most : ℕ) → z ≤ℤ pos most → momentOf z ≤ most

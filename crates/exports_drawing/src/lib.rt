@@ -10,7 +10,7 @@ ghost use mathlib.Core.Path.{_≡_};
 ghost use Rattle.measure.specs.Answer.{numberOf, valueOr};
 ghost use Rattle.tables.specs.Pools.{pools};
 ghost use Rattle.tables.specs.Refuse.{chartBounds, refusalOf};
-ghost use Rattle.checks.specs.Operations.{legCauses};
+ghost use Rattle.geometry_checks.specs.Operations.{legCauses};
 ghost use Rattle.point_columns.specs.Answers.{drawingAnswer, drawnAnswer, latAfter, lonAfter};
 ghost use Rattle.leg_drawing.specs.Trip.{askedPoints};
 ghost use Rattle.journey_rules.specs.Causes.{journeyCauses};

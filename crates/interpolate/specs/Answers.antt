@@ -7,7 +7,7 @@ use Rattle.lengths.specs.Line.{lineOf}
 use Rattle.tables.specs.Pools.{Pools, partOf}
 use Rattle.tables.specs.Refuse.{chartBounds, refusalOf}
 use Rattle.tables.specs.declared.lent.Along.{Along}
-use Rattle.checks.specs.Operations.{interpolationCauses}
+use Rattle.geometry_checks.specs.Operations.{interpolationCauses}
 use Rattle.stretches.specs.declared.drawing.Interpolated.{Interpolated}
 use Rattle.stretches.specs.declared.drawing.Interpolated.the-variants.{At, Nothing}
 use Rattle.interpolate.specs.Asked.{positionLent}

@@ -1,7 +1,7 @@
 // The operation.
 use crate::asked::Question;
 use crate::asked::position;
-use checks::check_interpolation;
+use geometry_checks::check_interpolation;
 use stretches::Drawn;
 use stretches::Interpolated;
 use tables::Along;

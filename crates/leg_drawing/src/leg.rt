@@ -1,5 +1,5 @@
 // The operation.
-use checks::check_leg;
+use geometry_checks::check_leg;
 use ids::Found;
 use leg_points::draw_stops;
 use leg_points::part;
@@ -20,7 +20,7 @@ ghost use lib.ListN.{length, take, drop};
 ghost use Rattle.lengths.specs.Line.{lineOf};
 ghost use Rattle.tables.specs.Pools.{pools};
 ghost use Rattle.tables.specs.Refuse.{chartBounds, refusalOf};
-ghost use Rattle.checks.specs.Operations.{legCauses};
+ghost use Rattle.geometry_checks.specs.Operations.{legCauses};
 ghost use Rattle.trip_rows.specs.Rows.{rowPosition};
 ghost use Rattle.trip_projection.specs.Vertices.{positionsFrom};
 ghost use Rattle.point_columns.specs.Answers.{drawingAnswer, drawnAnswer, latAfter, lonAfter};

@@ -17,9 +17,9 @@ use Rattle.timeline.specs.Turn.{turnOf}
 use Rattle.timeline.specs.declared.turn.Turn.{Turn}
 use Rattle.timeline.specs.declared.turn.Turn.the-variants.{At as Alongside, Between}
 use Rattle.timeline_order.proofs.Says.{Says, turn-says}
-use Rattle.calls.specs.Updates.{firstDeparture}
+use Rattle.update_rows.specs.Updates.{firstDeparture}
 use Rattle.sailings.specs.Sailing.{offsetOf, localAt, InTime, sailingTrip}
-use Rattle.walks.specs.Leg.{legCount}
+use Rattle.leg_paths.specs.Leg.{legCount}
 use Rattle.estimate_facts.proofs.Asked.{trip-ready, first-in-time, first-in-reach}
 use Rattle.estimate_facts.proofs.Trips.{sailing-trip-is, trip-rows, rows-few}
 use Rattle.plans.specs.Plan.{courseOf}

@@ -12,12 +12,12 @@ use Rattle.tables.specs.declared.lent.Tables.{Tables}
 use Rattle.trip_rows.specs.Rows.{stopPoint}
 use Rattle.trip_samples.specs.declared.course.Course.{Course}
 use Rattle.calls.specs.Calls.{reportedOf, updateStop, callRows, callStops, callArrivals, callDepartures}
-use Rattle.calls.specs.Updates.{bestRow}
+use Rattle.update_rows.specs.Updates.{bestRow}
 use Rattle.sailings.specs.Sailing.{isCancelled, sailingTrip}
 use Rattle.previous.specs.Before.{prevRow}
 use Rattle.previous.specs.Run.{runOf}
 use Rattle.legs.specs.declared.path.End.{End}
-use Rattle.walks.specs.Leg.{legShape, legStops, legPath}
+use Rattle.leg_paths.specs.Leg.{legShape, legStops, legPath}
 use Rattle.voyages.specs.Voyage.{Leg, Approach, none, over, Pin, unplaced, pinned, Voyage}
 
 -- the tables that a trip's course is read from

@@ -1,15 +1,15 @@
 // On a leg: from an end to another, along the path of the static trip.
 use ids::Found;
+use leg_paths::path_of;
 use legs::End;
 use legs::Walked;
 use tables::Tables;
 use trip_samples::Course;
-use walks::path_of;
 use walks::walk;
 ghost use mathlib.Core.Path.{_≡_};
 ghost use Prim.Native.Nat.{_≤_};
 ghost use Rattle.voyages.specs.Outcome.{walkLeg};
-ghost use Rattle.walks.specs.Leg.{legCount};
+ghost use Rattle.leg_paths.specs.Leg.{legCount};
 ghost use Rattle.plans.specs.Plan.{courseOf, legBetween};
 
 // The tables that a trip's course is read from.

@@ -1,6 +1,5 @@
 // Without a call: at the best stop, if it can be placed. The Rust's `pin_at_best_stop`.
 use calls::Reported;
-use calls::best_row;
 use calls::update_stop;
 use ids::Found;
 use ids::cell;
@@ -8,11 +7,12 @@ use legs::Status;
 use stop_ids::Lookup;
 use tables::Tables;
 use trip_rows::stop_point;
+use update_rows::best_row;
 use voyages::Outcome;
 use voyages::at_stop;
 ghost use mathlib.Core.Path.{_≡_};
 ghost use Rattle.calls.specs.Calls.{Ready, reportedOf};
-ghost use Rattle.calls.specs.Updates.{bestRow};
+ghost use Rattle.update_rows.specs.Updates.{bestRow};
 ghost use Rattle.plans.specs.Plan.{pinOf, pinAt};
 ghost use Rattle.voyages.specs.Outcome.{atPin};
 

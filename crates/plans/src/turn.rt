@@ -30,7 +30,7 @@ ghost use Rattle.tables.specs.Refuse.{chartBounds, refusalOf};
 ghost use Rattle.checks.specs.Operations.{estimateCauses};
 ghost use Rattle.sailings.specs.Sailing.{sailingTrip};
 ghost use Rattle.timeline.specs.Turn.{turnOf};
-ghost use Rattle.walks.specs.Leg.{legCount};
+ghost use Rattle.leg_paths.specs.Leg.{legCount};
 ghost use Rattle.voyages.specs.Outcome.{approachStatus, approaching, underWayAt, towardsAt, atTurn};
 ghost use Rattle.plans.specs.Plan.{courseOf, rowEnd, callEnd, approachFrom, voyageFrom};
 

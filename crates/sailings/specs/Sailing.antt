@@ -12,9 +12,9 @@ use Rattle.tables.specs.declared.lent.Tables.{Tables}
 use Rattle.matching.specs.Matching.{matchOf}
 use Rattle.matching.specs.Moments.{todayOf, yesterdayOf}
 use Rattle.timetable.specs.Timetable.{namedOf, planOf}
-use Rattle.calls.specs.Updates.{isSet, momentAt, firstDeparture}
-use Rattle.calls.specs.declared.first.Moment.{Moment}
-use Rattle.calls.specs.declared.first.Moment.the-variants.{At, Nothing}
+use Rattle.update_rows.specs.Updates.{isSet, momentAt, firstDeparture}
+use Rattle.update_rows.specs.declared.first.Moment.{Moment}
+use Rattle.update_rows.specs.declared.first.Moment.the-variants.{At, Nothing}
 
 -- it is cancelled
 abbrev pub isCancelled : List ℕ → Sailing → Bool

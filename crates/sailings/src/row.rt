@@ -1,6 +1,6 @@
 // What the row of a sailing says.
-use calls::Moment;
 use tables::Sailing;
+use update_rows::Moment;
 ghost use mathlib.Core.Path.{_≡_};
 ghost use Rattle.matching.specs.Moments.{InReach};
 ghost use Rattle.sailings.specs.Sailing.{isCancelled, clockOf, offsetOf, routeOf, departs, localAt, InTime};
@@ -10,7 +10,7 @@ pub fn is_cancelled(bytes: &[u8], s: Sailing) -> bool
     ensures { λ r. ⌜ r ≡ isCancelled (now (bytes .entry)) s ⌝ }
 {
     let cancelled = s.cancelled;
-    calls::is_set(bytes, cancelled, 0)
+    update_rows::is_set(bytes, cancelled, 0)
 }
 
 // The clock.
@@ -18,7 +18,7 @@ pub fn clock(times: &[i64], s: Sailing) -> u64
     ensures { λ r. ⌜ r ≡ clockOf (now (times .entry)) s ⌝ }
 {
     let column = s.now;
-    calls::moment_at(times, column, 0)
+    update_rows::moment_at(times, column, 0)
 }
 
 // The route, or an empty text where there is none.
@@ -27,7 +27,7 @@ pub(crate) fn route<'a>(bytes: &'a [u8], words: &[u32], s: Sailing) -> &'a [u8]
 {
     let routed = s.routed;
     let routes = s.route;
-    if calls::is_set(bytes, routed, 0) {
+    if update_rows::is_set(bytes, routed, 0) {
         return ids::id(bytes, words, routes, 0);
     }
     &bytes[..0]
@@ -38,7 +38,7 @@ pub(crate) fn offset(times: &[i64], s: Sailing) -> i64
     ensures { λ r. ⌜ r ≡ offsetOf (now (times .entry)) s ⌝ }
 {
     let column = s.offset;
-    calls::time(times, column, 0)
+    update_rows::time(times, column, 0)
 }
 
 // Whether there is a first departure.

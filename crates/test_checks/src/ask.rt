@@ -49,8 +49,8 @@ fn first(
     match n {
         0 => b.calls,
         1 => checks::check_estimate(bytes, words, times, reals, dists, b, t),
-        2 => checks::check_geometry(bytes, words, times, reals, dists, b, t),
-        3 => checks::check_leg(bytes, words, times, reals, dists, b, t, worlds::leg(head)),
+        2 => geometry_checks::check_geometry(bytes, words, times, reals, dists, b, t),
+        3 => geometry_checks::check_leg(bytes, words, times, reals, dists, b, t, worlds::leg(head)),
         4 => checks::check_matching(
             bytes,
             words,
@@ -71,7 +71,23 @@ fn first(
             t,
             worlds::service(head),
         ),
-        6 => checks::check_interpolation(bytes, words, times, reals, dists, b, worlds::along(head)),
-        _ => checks::check_calibration(bytes, words, times, reals, dists, b, worlds::samples(head)),
+        6 => geometry_checks::check_interpolation(
+            bytes,
+            words,
+            times,
+            reals,
+            dists,
+            b,
+            worlds::along(head),
+        ),
+        _ => geometry_checks::check_calibration(
+            bytes,
+            words,
+            times,
+            reals,
+            dists,
+            b,
+            worlds::samples(head),
+        ),
     }
 }

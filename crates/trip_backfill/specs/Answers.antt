@@ -8,7 +8,7 @@ use Rattle.answers.specs.Answers.{unlessRefused, orShort, unlessKept}
 use Rattle.tables.specs.Pools.{Pools, partOf}
 use Rattle.tables.specs.Refuse.{chartBounds, refusalOf}
 use Rattle.tables.specs.declared.lent.Tables.{Tables}
-use Rattle.checks.specs.Operations.{geometryCauses}
+use Rattle.geometry_checks.specs.Operations.{geometryCauses}
 use Rattle.backfill.specs.Rows.{rowsOf, distsIn, marksIn}
 use Rattle.trip_backfill.specs.Tables.{afterTrips}
 use Rattle.backfill.specs.declared.row.Distance.{Distance}

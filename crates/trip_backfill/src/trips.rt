@@ -3,7 +3,7 @@ use crate::copy::copy_dists;
 use crate::copy::copy_marks;
 use crate::copy::count;
 use backfill::backfill_rows;
-use checks::check_geometry;
+use geometry_checks::check_geometry;
 use tables::Bounds;
 use tables::Tables;
 use tables::bytes_of;

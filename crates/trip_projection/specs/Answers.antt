@@ -12,7 +12,7 @@ use Rattle.tables.specs.Pools.{Pools}
 use Rattle.tables.specs.Refuse.{chartBounds, refusalOf}
 use Rattle.tables.specs.declared.lent.LegAsked.{LegAsked}
 use Rattle.tables.specs.declared.lent.Tables.{Tables}
-use Rattle.checks.specs.Operations.{legCauses}
+use Rattle.geometry_checks.specs.Operations.{legCauses}
 use Rattle.trip_ids.specs.Trips.{tripOf}
 use Rattle.trip_projection.specs.Vertices.{tripVertices}
 use Rattle.trip_projection.specs.declared.trip.Projected.{Projected}

@@ -1,6 +1,6 @@
 // The stops of a trip.
 use crate::mark::mark;
-use checks::check_leg;
+use geometry_checks::check_leg;
 use ids::Found;
 use tables::Bounds;
 use tables::LegAsked;

@@ -1,3 +1,2 @@
--- `Choice`: how each path is chosen. `Legs`: a leg's chain is one from end to end, and its path is one that can be chosen.
-pub mod Choice
-pub mod Legs
+-- `Between`: a walk at a leg's ends and between them.
+pub mod Between

@@ -1,4 +1,2 @@
--- What the contracts cite. `Dist`: the distance that the timetable has for a sequence. `Leg`: the shape and the chain of a leg of a trip, and its path. `Walk`: the walk along it.
-pub mod Dist
-pub mod Leg
+-- `Walk`: the walk along a leg's path, over the tables.
 pub mod Walk

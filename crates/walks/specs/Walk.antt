@@ -20,7 +20,7 @@ use Rattle.legs.specs.declared.path.End.{End}
 use Rattle.legs.specs.declared.path.Path.{Path}
 use Rattle.legs.specs.declared.path.Path.the-variants.{ByDistance, Polyline, Chain, Straight}
 use Rattle.legs.specs.declared.walk.Walked.{Walked}
-use Rattle.walks.specs.Leg.{legShape, legStops}
+use Rattle.leg_paths.specs.Leg.{legShape, legStops}
 
 -- between two distances along a shape
 abbrev pub distanceWalk : ℕ → List Point → Span → Float → Walked

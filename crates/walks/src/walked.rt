@@ -1,11 +1,11 @@
 // The walk along a leg's path at a fraction of it.
-use crate::leg::leg_rows;
-use crate::leg::leg_span;
 use by_distance::Span;
 use by_distance::spot_over;
 use chain_spots::on_two;
 use chains::chain_walk;
 use ids::Found;
+use leg_paths::leg_rows;
+use leg_paths::leg_span;
 use legs::End;
 use legs::Path;
 use legs::Walked;
@@ -25,7 +25,7 @@ ghost use mathlib.Core.Path.{_≡_};
 ghost use Prim.Native.Nat.{_≤_};
 ghost use Rattle.lengths.specs.Line.{lineOf};
 ghost use Rattle.legs.specs.Walk.{insideLeg};
-ghost use Rattle.walks.specs.Leg.{legCount, legShape, legStops};
+ghost use Rattle.leg_paths.specs.Leg.{legCount, legShape, legStops};
 ghost use Rattle.walks.specs.Walk.{distanceWalk, routeWalk, chainWalk, straightWalk, legWalk};
 
 // Between two distances along a shape.

@@ -95,7 +95,7 @@ fn row(name: &str, case: &mut Case, clocks: &[i64]) {
     for &now in clocks {
         case.now = now;
         laid.at(now);
-        let line = estimate_port::line(&estimate_port::estimate(&laid), case);
+        let line = estimate_port::estimate(&laid).line(case);
         assert_eq!(line, asked::board(case, &epoch), "the two differ");
         let now = lent::moment(now).expect("a moment");
         let mut ours = || {

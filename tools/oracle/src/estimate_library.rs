@@ -1,4 +1,5 @@
-//! Holds the estimate of the library beside the Rust's: `estimate_library COUNT` asks it of COUNT clocks of generated cases, without a program between.
+//! Holds the estimate of the library beside the Rust's: `estimate_library COUNT` asks it of COUNT clocks of generated cases, without a program between. Its line and its
+//! place are to be the Rust's.
 #![allow(dead_code, unused_imports)]
 mod cases;
 #[path = "inputs/draw.rs"]
@@ -30,16 +31,18 @@ fn main() {
         for now in make::clocks(&mut draw, &case) {
             case.now = now;
             laid.at(now);
-            let rust = asked::board(&case, &epoch);
-            let port = estimate_port::line(&estimate_port::estimate(&laid), &case);
+            let plan = Plan::of(&case, &epoch);
+            let place = plan.place(now);
+            let rust = (asked::board(&case, &epoch), place.map(|place| place.text()));
+            let told = estimate_port::estimate(&laid);
+            let port = (told.line(&case), told.place().map(|place| place.text()));
             if rust != port {
                 differ += 1;
                 if differ <= SHOWN {
-                    println!("the Rust: {rust}\nthe port: {port}\n{}", case.text());
+                    println!("the Rust: {rust:?}\nthe port: {port:?}\n{}", case.text());
                 }
             }
-            let plan = Plan::of(&case, &epoch);
-            meets::note(&mut met, &plan, now, plan.place(now));
+            meets::note(&mut met, &plan, now, place);
             clocks += 1;
         }
         all += 1;

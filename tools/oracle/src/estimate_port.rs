@@ -1,11 +1,12 @@
 //! The port's side of the estimate: the function of target/staticlib/libexports_estimate.a.
 use crate::cases::lay::{Laid, Tables};
+use crate::cases::place::{Kind, Place};
 use crate::cases::{digits, token, Case};
 
 /// Where an estimate is; include/zebumorn.h says what its numbers are.
 #[derive(Clone, Copy)]
 #[repr(C)]
-pub struct Place {
+pub struct PlaceTold {
     pub fraction: f64,
     pub vertex: u64,
     pub kind: u32,
@@ -17,7 +18,7 @@ pub struct Place {
 /// What the estimate answers.
 #[derive(Clone, Copy)]
 #[repr(C)]
-pub struct Estimated {
+pub struct Told {
     pub lat: f64,
     pub lon: f64,
     pub bearing: f64,
@@ -27,7 +28,7 @@ pub struct Estimated {
     pub bears: u32,
     pub answered: u32,
     pub refusal: u32,
-    pub place: Place,
+    pub place: PlaceTold,
 }
 
 extern "C" {
@@ -43,7 +44,7 @@ extern "C" {
         dists: *const f32,
         dist_count: usize,
         t: Tables,
-    ) -> Estimated;
+    ) -> Told;
 }
 
 /// The statuses by their numbers, from 1.
@@ -55,7 +56,7 @@ const STATUSES: [&str; 5] = [
     "ESTIMATED_IN_TRANSIT_TO",
 ];
 
-pub fn estimate(laid: &Laid) -> Estimated {
+pub fn estimate(laid: &Laid) -> Told {
     unsafe {
         zebumorn_estimate(
             laid.bytes.as_ptr(),
@@ -73,15 +74,32 @@ pub fn estimate(laid: &Laid) -> Estimated {
     }
 }
 
-/// The line that the Board prints of it.
-pub fn line(e: &Estimated, case: &Case) -> String {
-    if e.refusal != 0 {
-        return format!("(refused {})", e.refusal);
+impl Told {
+    /// The line that the Board prints of it.
+    pub fn line(&self, case: &Case) -> String {
+        if self.refusal != 0 {
+            return format!("(refused {})", self.refusal);
+        }
+        if self.answered == 0 {
+            return "(none)".into();
+        }
+        let bearing = if self.bears == 1 { digits(self.bearing) } else { "-".into() };
+        let (stop, status) = (token(&case.stops[self.stop as usize].id), STATUSES[self.status as usize - 1]);
+        format!("(at {} {stop} {status} {} {} {bearing})", self.sequence, digits(self.lat), digits(self.lon))
     }
-    if e.answered == 0 {
-        return "(none)".into();
+
+    /// The place beside it.
+    pub fn place(&self) -> Option<Place> {
+        let PlaceTold { fraction, vertex, kind, number, line, way } = self.place;
+        let number = number as usize;
+        let line = || [Kind::Shape, Kind::Chain, Kind::Straight][line as usize - 1];
+        match kind {
+            1 => Some(Place::Call(number)),
+            2 => Some(Place::Start(number)),
+            3 => Some(Place::End(number)),
+            4 => Some(Place::Stretch(number, line(), vertex as usize, way == 1, fraction)),
+            5 => Some(Place::Last(number, line())),
+            _ => None,
+        }
     }
-    let bearing = if e.bears != 0 { digits(e.bearing) } else { "-".into() };
-    let (stop, status) = (token(&case.stops[e.stop as usize].id), STATUSES[e.status as usize - 1]);
-    format!("(at {} {stop} {status} {} {} {bearing})", e.sequence, digits(e.lat), digits(e.lon))
 }

@@ -27,6 +27,38 @@ const TIMES: u64 = 3;
 const LOOKED_THROUGH: u64 = 20_000;
 const LONGEST: [usize; 3] = [600, 1_200, 1_000_000];
 
+/// Cases by hand: document 01's own; a call whose stop is on no row, with a row of its sequence that has no position and a lower sequence after it; the end of a
+/// leg of one second, to a call that departs before it arrives.
+const BY_HAND: [&str; 3] = [
+    "(feed f)
+(trip t)
+(now 250)
+(stop f:a 0000000000000000 0000000000000000)
+(stop f:b 0000000000000000 3ff0000000000000)
+(update 1 f:a (arr 100) (dep 100))
+(update 2 f:b (arr 400) (dep 400))
+",
+    "(feed f)
+(trip t)
+(now 950)
+(update 5 f:a (arr 1000) (dep 1000))
+(stop f:a 0000000000000000 0000000000000000)
+(stop f:b 0000000000000000 3ff0000000000000)
+(stop f:c)
+(static t f s)
+(call 5 2 0 0)
+(call 3 1 100 100)
+",
+    "(feed f)
+(trip t)
+(now 101)
+(update 1 f:a (arr 100) (dep 100))
+(update 2 f:b (arr 101) (dep 50))
+(stop f:a 0000000000000000 0000000000000000)
+(stop f:b 0000000000000000 3ff0000000000000)
+",
+];
+
 #[derive(Default)]
 struct Sample {
     questions: String,
@@ -97,6 +129,9 @@ fn main() -> std::io::Result<()> {
     let folder = std::env::args().nth(1).expect("usage: sample_board FOLDER");
     let folder = Path::new(&folder);
     let (mut sample, mut draw) = (Sample::default(), Draw::new(14));
+    for text in BY_HAND {
+        sample.put(text, &told(text.as_bytes()).expect("no tie"), &Met::default());
+    }
     for longest in LONGEST {
         for _ in 0..LOOKED_THROUGH {
             sample.look_at_case(&mut draw, longest);

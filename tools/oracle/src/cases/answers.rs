@@ -247,12 +247,13 @@ fn calibrate(read: &Read, n: usize) -> Option<String> {
     let Some(trip) = case.trips.get(n) else {
         return Some(refused(5));
     };
-    let Some(shape) = trip.shape else {
-        return Some("(none)".into());
+    // without a shape the samples are lent all the same
+    let mut lent = match trip.shape {
+        Some(shape) => line(case.shapes.get(shape as usize)?),
+        None => plain(),
     };
-    let mut lent = line(case.shapes.get(shape as usize)?);
     let mut own = rows_of(trip, false);
-    own.shape = Some(0);
+    own.shape = trip.shape.map(|_| 0);
     for call in &mut own.calls {
         let at = case.stops.get(call.stop as usize)?.at.filter(|_| call.dist.is_some());
         call.dist = call.dist.filter(|_| at.is_some());

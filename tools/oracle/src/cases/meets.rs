@@ -309,7 +309,7 @@ fn note_leg(met: &mut Met, plan: &Plan, place: Place) {
 }
 
 /// Whether any sequence stands on two rows of the static trip.
-fn note_rows(met: &mut Met, plan: &Plan) {
+fn note_rows(met: &mut Met, plan: &Plan, place: Option<Place>) {
     let Some(trip) = plan.trip() else {
         return;
     };
@@ -328,8 +328,9 @@ fn note_rows(met: &mut Met, plan: &Plan) {
     };
     let astray = first.is_some_and(|first| !rows.iter().any(|row| is_target(row, first)));
     let seq = first.map_or(0, |first| first.seq);
-    met.note(astray && seq > 0 && plan.ends(1).is_some(), "previous: by sequence alone");
-    met.note(astray && seq == 0 && plan.ends(1).is_some(), "previous: by sequence alone, of 0");
+    let leg_one = matches!(place, Some(Place::Start(1) | Place::Stretch(1, ..) | Place::Last(1, _)));
+    met.note(astray && seq > 0 && leg_one, "previous: by sequence alone");
+    met.note(astray && seq == 0 && leg_one, "previous: by sequence alone, of 0");
     met.note(
         astray && seq > 0 && rows.iter().any(|row| row.stop_sequence == seq),
         "previous: by sequence alone, a row without position at it",
@@ -347,7 +348,7 @@ pub fn note(met: &mut Met, plan: &Plan, now: i64, place: Option<Place>) {
     note_stops(met, plan);
     note_clock(met, plan, now);
     note_turn(met, plan, now, place);
-    note_rows(met, plan);
+    note_rows(met, plan, place);
     if let Some(place) = place {
         note_leg(met, plan, place);
     }

@@ -12,7 +12,7 @@ pub struct Span {
 
 /// How many columns the tables have, in the order of the structs of crates/tables/src/lent.rt; a column of ids is two.
 pub const TABLES: usize = 78;
-/// The columns of a journey, in the order of the struct of crates/journeys/src/legs.rt.
+/// The columns of a journey, in the order of the struct of crates/journey_rules/src/lent.rt.
 pub const JOURNEY: usize = 11;
 
 /// The pools, and where each column lies.

@@ -5,7 +5,7 @@ use mathlib.Core.Path.{_∙_, sym}
 use Rattle.tables.specs.Pools.{pools}
 use Rattle.tables.specs.Refuse.{chartBounds}
 use Rattle.lookup_rules.proofs.Parts.{row-ids-good}
-use Rattle.checks.proofs.Operations.{leg-holds}
+use Rattle.geometry_checks.proofs.Operations.{leg-holds}
 use Rattle.point_columns.proofs.Rooms.{unequal, denied}
 use Rattle.leg_drawing.proofs.Trips.{asked}
 use Rattle.leg_drawing.proofs.leg.leg_geometry.Statement.{statement}

@@ -1,6 +1,6 @@
 -- `walks::walked::chain_walked` meets its contract.
 use Rattle.chains.specs.Route.{onChain}
-use Rattle.walks.proofs.Choice.{in-reach}
+use Rattle.leg_paths.proofs.Choice.{in-reach}
 use Rattle.walks.proofs.walked.chain_walked.Statement.{statement}
 use Rattle.walks.proofs.walked.chain_walked.Tie as tie
 

@@ -1,6 +1,6 @@
 -- `walks::walked::inside_leg` meets its contract.
 use borrow.Author.Needs.{needs}
-use Rattle.walks.proofs.Choice.{shape-is}
+use Rattle.leg_paths.proofs.Choice.{shape-is}
 use Rattle.walks.proofs.walked.inside_leg.Statement.{statement}
 use Rattle.walks.proofs.walked.inside_leg.Tie as tie
 

@@ -1,7 +1,7 @@
 -- `walks::walked::walk` meets its contract.
 use lib.Ieee.{ofBits, ofInt}
 use Rattle.walks.specs.Walk.{legWalk}
-use Rattle.walks.proofs.Choice.{at-its-start, at-its-end, between}
+use Rattle.walks.proofs.Between.{at-its-start, at-its-end, between}
 use Rattle.walks.proofs.walked.walk.Statement.{statement}
 use Rattle.walks.proofs.walked.walk.Tie as tie
 

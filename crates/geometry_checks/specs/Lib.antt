@@ -1,0 +1,2 @@
+-- `Operations`: the causes of each operation.
+pub mod Operations
