@@ -56,9 +56,9 @@ impl Feed {
         let cancelled = Laid::of(case);
         case.cancelled = false;
         let sailing = asked::sailing(case);
-        let line = estimate_port::line(&estimate_port::estimate(&laid), case);
+        let line = estimate_port::estimate(&laid).line(case);
         assert_eq!(line, asked::board(case, &self.epoch), "the two differ");
-        assert_eq!(estimate_port::line(&estimate_port::estimate(&cancelled), case), "(none)");
+        assert_eq!(estimate_port::estimate(&cancelled).line(case), "(none)");
         let now = lent::moment(now).expect("a moment");
         let mut port = || {
             black_box(estimate_port::estimate(&laid).lat);
@@ -161,7 +161,7 @@ impl Feed {
 /// Microseconds of the checks of a cancelled sailing's tables, which have no fault.
 fn refused_none(case: &Case) -> f64 {
     let laid = Laid::of(case);
-    assert_eq!(estimate_port::line(&estimate_port::estimate(&laid), case), "(none)");
+    assert_eq!(estimate_port::estimate(&laid).line(case), "(none)");
     let mut checks = || {
         black_box(estimate_port::estimate(&laid).lat);
     };
