@@ -241,21 +241,18 @@ fn along(read: &Read, words: &[&str]) -> String {
     }
 }
 
-/// None where a row's stop or the trip's shape is not in its table, of which docs/CASES.md says nothing.
-fn calibrate(read: &Read, n: usize) -> Option<String> {
+/// Calibration alone has no refusal 5: a shape that is not there has no points, a stop that is not there no position. Without a shape the samples are lent all the same.
+fn calibrate(read: &Read, n: usize) -> String {
     let case = &read.case;
     let Some(trip) = case.trips.get(n) else {
-        return Some(refused(5));
+        return refused(5);
     };
-    // without a shape the samples are lent all the same
-    let mut lent = match trip.shape {
-        Some(shape) => line(case.shapes.get(shape as usize)?),
-        None => plain(),
-    };
+    let shape = trip.shape.and_then(|shape| case.shapes.get(shape as usize));
+    let mut lent = shape.map_or_else(plain, line);
     let mut own = rows_of(trip, false);
-    own.shape = trip.shape.map(|_| 0);
+    own.shape = shape.map(|_| 0);
     for call in &mut own.calls {
-        let at = case.stops.get(call.stop as usize)?.at.filter(|_| call.dist.is_some());
+        let at = case.stops.get(call.stop as usize).and_then(|stop| stop.at).filter(|_| call.dist.is_some());
         call.dist = call.dist.filter(|_| at.is_some());
         call.stop = lent.case.stops.len() as u32;
         lent.case.stops.push(Stop { id: "x".into(), raw: String::new(), at });
@@ -263,13 +260,11 @@ fn calibrate(read: &Read, n: usize) -> Option<String> {
     lent.case.trips.push(own);
     let number = refusal(&lent);
     if number != 0 {
-        return Some(refused(number));
+        return refused(number);
     }
     let epoch = epoch(&lent.case);
-    Some(
-        trip_shape_dist_affine(&epoch, &epoch.trips[0])
-            .map_or("(none)".into(), |(shift, scale)| format!("(affine {} {})", digits(shift), digits(scale))),
-    )
+    trip_shape_dist_affine(&epoch, &epoch.trips[0])
+        .map_or("(none)".into(), |(shift, scale)| format!("(affine {} {})", digits(shift), digits(scale)))
 }
 
 fn place(read: &Read) -> Option<String> {
@@ -292,7 +287,7 @@ pub fn answer(query: &str, read: &Read) -> Option<String> {
         "runs" => Some(runs(read, words)),
         "match" => Some(matched(read)),
         "project" | "backfill" => Some(of_trip(read, name, number(words[0]))),
-        "calibrate" => calibrate(read, number(words[0]) as usize),
+        "calibrate" => Some(calibrate(read, number(words[0]) as usize)),
         "along" => Some(along(read, words)),
         "leg" => Some(leg(read, words)),
         "place" => place(read),
