@@ -29,7 +29,7 @@ use timing::{least, Pass};
 fn row(name: &str, passes: [Pass; 3]) {
     let [port, checks, rust] = least(passes);
     let share = (100.0 * checks / port).min(100.0);
-    println!("{name:<52} {port:>9.1} {rust:>9.1} {:>9.2} {checks:>9.1} {share:>7.0}", port / rust);
+    println!("{name:<52} {port:>9.1} {rust:>9.2} {:>9.2} {checks:>9.1} {share:>7.0}", port / rust);
 }
 
 /// A feed as both sides have it.
@@ -56,9 +56,9 @@ impl Feed {
         let cancelled = Laid::of(case);
         case.cancelled = false;
         let sailing = asked::sailing(case);
-        let line = estimate_port::line(&estimate_port::estimate(&laid), case);
+        let line = estimate_port::estimate(&laid).line(case);
         assert_eq!(line, asked::board(case, &self.epoch), "the two differ");
-        assert_eq!(estimate_port::line(&estimate_port::estimate(&cancelled), case), "(none)");
+        assert_eq!(estimate_port::estimate(&cancelled).line(case), "(none)");
         let now = lent::moment(now).expect("a moment");
         let mut port = || {
             black_box(estimate_port::estimate(&laid).lat);
@@ -133,6 +133,40 @@ impl Feed {
             self.estimate(&format!("between calls, trip by {way}"), self.size.moment(trip, 10) + DWELL + RUN / 3);
         }
     }
+
+    /// What the checks of each table take: less of a feed is lent each time.
+    fn checks(mut self) {
+        let parts: [(&str, fn(&mut Case)); 6] = [
+            ("aliases", |case| case.aliases.clear()),
+            ("lines", |case| case.lines.clear()),
+            ("shapes and points", |case| {
+                case.trips.iter_mut().for_each(|trip| trip.shape = None);
+                case.shapes.clear();
+            }),
+            ("stop times", |case| case.trips.iter_mut().for_each(|trip| trip.calls.clear())),
+            ("trips", |case| case.trips.clear()),
+            ("stops", |case| case.stops.clear()),
+        ];
+        self.case.cancelled = true;
+        let mut before = refused_none(&self.case);
+        for (table, without) in parts {
+            without(&mut self.case);
+            let after = refused_none(&self.case);
+            println!("{:<52} {:>9.1}", format!("{}, checks of {table}", self.name), before - after);
+            before = after;
+        }
+    }
+}
+
+/// Microseconds of the checks of a cancelled sailing's tables, which have no fault.
+fn refused_none(case: &Case) -> f64 {
+    let laid = Laid::of(case);
+    assert_eq!(estimate_port::estimate(&laid).line(case), "(none)");
+    let mut checks = || {
+        black_box(estimate_port::estimate(&laid).lat);
+    };
+    let [time] = least([&mut checks]);
+    time
 }
 
 fn main() {
@@ -141,5 +175,6 @@ fn main() {
         let mut feed = Feed::of(name, size);
         feed.estimates();
         feed.matches();
+        feed.checks();
     }
 }

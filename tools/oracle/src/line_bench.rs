@@ -98,10 +98,10 @@ fn rows(n: usize) -> bool {
         row(&format!("forward_last_index {n}"), over, &|| each(&|p| columns.forward_last_index(0, p)), &|| {
             each(&|p| rust_line::forward_last_index(&line, 0, p.0, p.1))
         }),
-        row(&format!("trip {n}"), over, &|| list(columns.project(&trip)), &|| {
+        row(&format!("a trip's projection, {n} vertices"), over, &|| list(columns.project(&trip)), &|| {
             list(rust_line::project_stops_monotonic(&line, &trip))
         }),
-        row(&format!("calibration {n}"), n, &|| fold_affine(columns.shape_dist_affine(first, last)), &|| {
+        row(&format!("calibration, {n} vertices"), n, &|| fold_affine(columns.shape_dist_affine(first, last)), &|| {
             let lengths = rust_line::shape_cumulative_distances(&line);
             fold_affine(rust_line::shape_dist_affine(&line, &lengths, &[first, last]))
         }),
