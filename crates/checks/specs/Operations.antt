@@ -7,8 +7,10 @@ use Rattle.tables.specs.declared.lent.Journey.{Journey}
 use Rattle.tables.specs.declared.lent.Service.{Service}
 use Rattle.tables.specs.declared.lent.Tables.{Tables}
 use Rattle.schedule_rules.specs.Parts.{callTimesCauses, callsCauses, tripsCauses}
-use Rattle.lookup_rules.specs.Parts.{aliasesCauses, calendarsCauses, exceptionsCauses, idRowsCauses, linesCauses, rangesCauses}
-use Rattle.asked_rules.specs.Parts.{arrivalsCauses, journeyCauses, sailingCauses, serviceCauses, updateDeparturesCauses, updatesCauses}
+use Rattle.calendar_rules.specs.Parts.{calendarsCauses, exceptionsCauses, rangesCauses}
+use Rattle.lookup_rules.specs.Parts.{aliasesCauses, idRowsCauses, linesCauses}
+use Rattle.update_rules.specs.Parts.{arrivalsCauses, sailingCauses, updateDeparturesCauses, updatesCauses}
+use Rattle.asked_rules.specs.Parts.{journeyCauses, serviceCauses}
 use Rattle.geometry_checks.specs.Operations.{geometryCauses}
 
 -- the calendars, ranges and exceptions

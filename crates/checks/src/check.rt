@@ -26,11 +26,11 @@ fn in_calendar_tables(
     let calendars = t.calendars;
     let ranges = t.ranges;
     let exceptions = t.exceptions;
-    let r1 = lookup_rules::calendars(b, calendars);
+    let r1 = calendar_rules::calendars(b, calendars);
     let best1 = least(bytes, words, times, reals, dists, best, r1);
-    let r2 = lookup_rules::ranges(b, ranges);
+    let r2 = calendar_rules::ranges(b, ranges);
     let best2 = least(bytes, words, times, reals, dists, best1, r2);
-    let r3 = lookup_rules::exceptions(b, exceptions);
+    let r3 = calendar_rules::exceptions(b, exceptions);
     least(bytes, words, times, reals, dists, best2, r3)
 }
 
@@ -131,12 +131,12 @@ pub fn check_estimate(
     let best3 = least(bytes, words, times, reals, dists, best2, r3);
     let best4 = in_trip_lookup(bytes, words, times, reals, dists, best3, b, t);
     let best5 = in_calendar_tables(bytes, words, times, reals, dists, best4, b, t);
-    let r6 = asked_rules::updates(b, updates);
+    let r6 = update_rules::updates(b, updates);
     let best6 = least(bytes, words, times, reals, dists, best5, r6);
-    let r7 = asked_rules::arrivals(updates);
+    let r7 = update_rules::arrivals(updates);
     let best7 = least(bytes, words, times, reals, dists, best6, r7);
-    let r8 = asked_rules::update_departures(updates);
+    let r8 = update_rules::update_departures(updates);
     let best8 = least(bytes, words, times, reals, dists, best7, r8);
-    let r9 = asked_rules::sailing(b, sailing);
+    let r9 = update_rules::sailing(b, sailing);
     least(bytes, words, times, reals, dists, best8, r9)
 }

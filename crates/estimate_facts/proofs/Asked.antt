@@ -15,8 +15,8 @@ use Rattle.tables.specs.declared.lent.Tables.{Tables}
 use Rattle.tables.proofs.Facts.{Sized, all-count, counted}
 use Rattle.tables.proofs.Passed.{clear-drop}
 use Rattle.lookup_rules.proofs.Parts.{row-ids-good}
-use Rattle.asked_rules.specs.Parts.{updatesCauses, arrivalsCauses, updateDeparturesCauses, sailingCauses}
-use Rattle.asked_rules.proofs.Parts.{update-stops, arrivals-between, update-departures-between, sailing-feed, now-between, offset-between}
+use Rattle.update_rules.specs.Parts.{updatesCauses, arrivalsCauses, updateDeparturesCauses, sailingCauses}
+use Rattle.update_rules.proofs.Parts.{update-stops, arrivals-between, update-departures-between, sailing-feed, now-between, offset-between}
 use Rattle.checks.specs.Operations.{estimateCauses}
 use Rattle.checks.proofs.Operations.{Estimate, estimate-holds}
 use Rattle.matching.specs.Matching.{Ready}

@@ -1,2 +1,2 @@
--- `Parts`: what is so of each part that rows are looked up by where no cause of it is there.
+-- `Parts`: what is so of each part that trips and stops are looked up by where no cause of it is there.
 pub mod Parts

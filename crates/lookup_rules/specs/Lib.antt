@@ -1,2 +1,2 @@
--- `Parts`: the causes of each part that rows are looked up by.
+-- `Parts`: the causes of each part that trips and stops are looked up by.
 pub mod Parts

@@ -21,7 +21,8 @@ use Rattle.tables.specs.declared.lent.Journey.{Journey}
 use Rattle.tables.specs.declared.lent.Service.{Service}
 use Rattle.tables.specs.declared.lent.Tables.{Tables}
 use Rattle.tables.proofs.Facts.{Sized, Counts, all-count, part-at}
-use Rattle.lookup_rules.proofs.Parts.{row-ids-good, alias-ids-good, line-tokens-short, lines-ascend, calendar-feeds-ascend, ranges-ascend, exceptions-ascend, exception-days, exception-dates}
+use Rattle.calendar_rules.proofs.Parts.{calendar-feeds-ascend, ranges-ascend, exceptions-ascend, exception-days, exception-dates}
+use Rattle.lookup_rules.proofs.Parts.{row-ids-good, alias-ids-good, line-tokens-short, lines-ascend}
 use Rattle.asked_rules.proofs.Parts.{journey-departure, journey-departs, journey-offset, journey-departure-between, journey-offset-between}
 use Rattle.checks.specs.Operations.{matchingCauses, serviceDayCauses}
 use Rattle.checks.proofs.Operations.{Calendar, Lookup, Matching, matching-holds, service-day-holds}

@@ -1,0 +1,2 @@
+-- `Parts`: the causes of each calendar table.
+pub mod Parts
