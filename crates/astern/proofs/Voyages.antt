@@ -42,15 +42,20 @@ module _ {p p′ : Pools} {t t′ : Tables} (s : SameButClock p p′ t t′) whe
   unfolding voyageFrom approachTo legBetween
   from-same trip rows stops arrs deps = rw (s .tables, s .bytes, s .words, s .reals, s .dists, approach-same (p .bytes) (p .words) (p .reals) (p .dists) t (s .now)) refl
 
+  -- a row serves as a pin alike
+  pin-lent : (best : Found) → pinAt (p′ .bytes) (p′ .words) (p′ .reals) t′ best ≡ pinAt (p .bytes) (p .words) (p .reals) t best
+  pin-lent best = rw (s .tables, s .bytes, s .words, s .reals) (pin-same (p .bytes) (p .words) (p .reals) (p .dists) t (s .now) best)
+
   module _ (e : refusalOf p (estimateCauses chartBounds t) ≡ 0) (m : SameMatch p p′ t t′) where
     -- of the tables
     voyage-same : voyageOf p′ t′ ≡ pinnedTo (voyageOf p t) (voyageOf p′ t′ .pin)
     unfolding voyageOf
     voyage-same = rw (m .trip, rows-same s, stops-same s, arrivals-same s e, departures-same s e) (from-same _ _ _ _ _)
 
+    -- without a call she is pinned at the row that serves best, which is the same with both clocks
     best-pin : (voyageOf p t .arrs ≡ []) → voyageOf p′ t′ .pin ≡ voyageOf p t .pin
     unfolding voyageOf voyageFrom callArrivals
-    best-pin none = rw (m .best (none-mapped _ _ none), s .tables, s .bytes, s .words, s .reals) (pin-same (p .bytes) (p .words) (p .reals) (p .dists) t (s .now) (bestRow (p .bytes) (t .updates) (p .words)))
+    best-pin none = pin-lent (bestRow (p′ .bytes) (t′ .updates) (p′ .words)) ∙ ap (λ (best : Found). pinAt (p .bytes) (p .words) (p .reals) t best) (m .best (none-mapped _ _ none))
 
     -- the same comes of both at any clock
     pub outcomes-same : (clock : ℕ) → outcomeAt (voyageOf p′ t′) clock ≡ outcomeAt (voyageOf p t) clock
