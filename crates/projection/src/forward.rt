@@ -5,6 +5,7 @@ ghost use Rattle.lengths.specs.Line.{lineOf};
 ghost use Rattle.projection.specs.Near.{firstWithin, lastWithin, orVertex, startOf};
 ghost use Rattle.projection.specs.Forward.{forwardLastIndex, forwardShapeIndex, nearOf};
 use crate::cursor::Cursor;
+use crate::least::least_from;
 use crate::near::first_within;
 use crate::near::last_within;
 use crate::nearest::sweep;
@@ -54,8 +55,8 @@ fn first_near(lat: &[f64], lon: &[f64], stop: Point, at: usize) -> Found
 fn last_near(lat: &[f64], lon: &[f64], stop: Point, at: usize) -> Found
     ensures { λ r. ⌜ r ≡ nearOf lastWithin (lineOf (now (lat .entry)) (now (lon .entry))) at stop ⌝ }
 {
-    let near = sweep(lat, lon, stop, at);
-    last_within(lat, lon, stop, at, near.best + Cursor::SLACK)
+    let best = least_from(lat, lon, stop, at);
+    last_within(lat, lon, stop, at, best + Cursor::SLACK)
 }
 
 // The first vertex from `from` on within the slack of the least distance; `from`, brought down to the

@@ -10,6 +10,7 @@
 // trip split after any stop projects as the whole).
 mod cursor; // where a projection has got to, handed a stop and handed back
 mod forward; // the first vertex, or the last, near a stop
+mod least; // the least distance from a stop, looked for from the line's end
 mod near; // the vertices that are no farther from a stop than a bound
 mod nearest; // the least distance from a stop
 

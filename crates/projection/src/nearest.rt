@@ -30,7 +30,7 @@ pub struct Nearest {
 
 // A limit past which no way is as short as `most`, where so many vertices are left that it is worth
 // its root.
-fn far(most: f64, left: usize) -> f64
+pub fn far(most: f64, left: usize) -> f64
     ensures { λ r. ⌜ Beyond most r ⌝ }
 {
     if left < 3 {
