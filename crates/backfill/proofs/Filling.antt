@@ -18,7 +18,7 @@ use Rattle.lengths.proofs.Running.{first-length}
 use Rattle.projection.specs.Projection.{projectionFrom, projectionOf, stepOf}
 use Rattle.projection.specs.declared.cursor.Position.{Position}
 use Rattle.projection.specs.declared.cursor.Position.the-variants.{Known, Missing}
-use Rattle.projection.proofs.Order.{first-most}
+use Rattle.near_vertex.proofs.Range.{first-most}
 use Rattle.trip_projection.specs.Vertices.{positionsFrom}
 use Rattle.backfill.specs.Rows.{rowsOf, distsIn, marksIn}
 use Rattle.backfill.specs.Walk.{filledAt, walkedOf}

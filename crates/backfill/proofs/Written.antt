@@ -10,12 +10,12 @@ use Rattle.ieee.specs.Single.{narrowOf}
 use Rattle.calibration.specs.declared.affine.Affine.{Affine}
 use Rattle.lengths.specs.Length.{lengthTo}
 use Rattle.lengths.specs.declared.line.Point.{Point}
-use Rattle.projection.specs.Near.{startOf}
+use Rattle.near_vertex.specs.Near.{startOf}
 use Rattle.projection.specs.Projection.{stepOf}
 use Rattle.projection.specs.declared.cursor.Position.{Position}
 use Rattle.projection.specs.declared.cursor.Position.the-variants.{Known, Missing}
 use Rattle.projection.specs.declared.cursor.Step.{Step}
-use Rattle.projection.proofs.Order.{first-from, first-most}
+use Rattle.near_vertex.proofs.Range.{first-from, first-most}
 use Rattle.backfill.specs.Rows.{inFeed, filledBy}
 use Rattle.backfill.specs.Walk.{walkedOf}
 use Rattle.backfill.specs.declared.row.Distance.{Distance}

@@ -7,7 +7,7 @@ use lib.ListN.{length}
 use Rattle.ieee.specs.Number.{absOf, nought, one}
 use Rattle.lengths.specs.Length.{lengthTo}
 use Rattle.lengths.specs.declared.line.Point.{Point}
-use Rattle.projection.specs.Forward.{forwardShapeIndex, forwardLastIndex}
+use Rattle.near_vertex.specs.Forward.{forwardShapeIndex, forwardLastIndex}
 use Rattle.calibration.specs.Scale.{decimal, snapUnitScale}
 use Rattle.calibration.specs.declared.affine.Calibrated.{Calibrated}
 use Rattle.calibration.specs.declared.affine.Calibrated.the-variants.{By, Nothing}

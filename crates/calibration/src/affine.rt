@@ -7,8 +7,8 @@ use ieee::abs;
 use lengths::Point;
 use lengths::length_to;
 use lengths::vertices;
-use projection::forward_last_index;
-use projection::forward_shape_index;
+use near_vertex::forward_last_index;
+use near_vertex::forward_shape_index;
 
 // A stop's position, and its distance along the line in the feed's own unit.
 pub struct Sample {

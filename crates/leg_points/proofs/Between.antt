@@ -14,12 +14,13 @@ use Rattle.ids.proofs.ByteOrder.{clash}
 use Rattle.lengths.specs.declared.line.Point.{Point}
 use Rattle.stretches.specs.Part.{wholeOf}
 use Rattle.stretches.specs.declared.part.Part.{Part}
-use Rattle.projection.specs.Forward.{forwardShapeIndex}
+use Rattle.near_vertex.specs.Forward.{forwardShapeIndex}
 use Rattle.projection.specs.Projection.{atStart, stepOf, passedOf, cursorAfter, projectionFrom}
 use Rattle.projection.specs.declared.cursor.Cursor.{Cursor}
 use Rattle.projection.specs.declared.cursor.Position.{Position}
 use Rattle.projection.specs.declared.cursor.Position.the-variants.{Known, Missing}
-use Rattle.projection.proofs.Order.{first-most, gets-none}
+use Rattle.near_vertex.proofs.Range.{first-most}
+use Rattle.projection.proofs.Order.{gets-none}
 use Rattle.trip_projection.specs.Vertices.{positionsFrom}
 use Rattle.leg_points.specs.Leg.{partBetween, vertexOf, legPart}
 use Rattle.leg_points.specs.declared.ends.Ends.{Ends}

@@ -10,8 +10,8 @@ pub use drawn::zebumorn_nearest_idx;
 ghost use mathlib.Core.Path.{_≡_};
 ghost use Rattle.lengths.specs.Length.{lengthTo};
 ghost use Rattle.lengths.specs.Line.{lineOf};
-ghost use Rattle.projection.specs.Forward.{forwardLastIndex, forwardShapeIndex};
-ghost use Rattle.projection.specs.Near.{orVertex};
+ghost use Rattle.near_vertex.specs.Forward.{forwardLastIndex, forwardShapeIndex};
+ghost use Rattle.near_vertex.specs.Near.{orVertex};
 ghost use Rattle.projection.specs.Projection.{passedOf};
 ghost use Rattle.calibration.specs.Scale.{snapUnitScale};
 ghost use Rattle.oracle_line.specs.Asked.{affineAsked, isBy, positionOf, scaleOr, startOr};
@@ -40,7 +40,7 @@ pub extern "C" fn zebumorn_forward_shape_index(
     ensures { λ r. ⌜ r ≡ forwardShapeIndex (lineOf (now (lat .entry)) (now (lon .entry))) from (record { lat = y; lon = x }) ⌝ }
 {
     let stop = Point { lat: y, lon: x };
-    projection::forward_shape_index(lat, lon, from, stop)
+    near_vertex::forward_shape_index(lat, lon, from, stop)
 }
 
 #[no_mangle]
@@ -54,7 +54,7 @@ pub extern "C" fn zebumorn_forward_last_index(
     ensures { λ r. ⌜ r ≡ forwardLastIndex (lineOf (now (lat .entry)) (now (lon .entry))) from (record { lat = y; lon = x }) ⌝ }
 {
     let stop = Point { lat: y, lon: x };
-    projection::forward_last_index(lat, lon, from, stop)
+    near_vertex::forward_last_index(lat, lon, from, stop)
 }
 
 // The stop's position, if it is known.

@@ -1,6 +1,2 @@
--- What the contracts cite. `Near`: distances from a stop, their least, and the first and last that are small enough. `Nearest`: what a search for the least remembers. `Forward`: the vertex that a stop lies at.
--- `Projection`: the cursor, and the vertices of a trip's stops.
-pub mod Near
-pub mod Nearest
-pub mod Forward
+-- What the contracts cite. `Projection`: the cursor, and the vertices of a trip's stops.
 pub mod Projection

@@ -3,7 +3,7 @@ use mathlib.Core.List.{List, [], _∷_, foldl}
 use Rattle.ids.specs.declared.lookup.Found.{Found}
 use Rattle.ids.specs.declared.lookup.Found.the-variants.{At, Nothing}
 use Rattle.lengths.specs.declared.line.Point.{Point}
-use Rattle.projection.specs.Forward.{forwardShapeIndex}
+use Rattle.near_vertex.specs.Forward.{forwardShapeIndex}
 use Rattle.projection.specs.declared.cursor.Cursor.{Cursor}
 use Rattle.projection.specs.declared.cursor.Step.{Step}
 use Rattle.projection.specs.declared.cursor.Passed.{Passed}

@@ -3,9 +3,9 @@
 ghost use mathlib.Core.Path.{_≡_};
 ghost use Rattle.lengths.specs.Line.{lineOf};
 ghost use Rattle.projection.specs.Projection.{atStart, stepOf, passedOf};
-use crate::forward::forward_shape_index;
 use ids::Found;
 use lengths::Point;
+use near_vertex::forward_shape_index;
 
 pub struct Cursor {
     pub at: usize,
@@ -32,9 +32,6 @@ pub struct Passed {
 }
 
 impl Cursor {
-    // By how many metres a vertex may be farther from a stop than the nearest.
-    pub const SLACK: f64 = 25.0;
-
     // Before the first stop of a trip.
     pub fn new() -> Self
         ensures { λ r. ⌜ r ≡ atStart ⌝ }

@@ -11,9 +11,9 @@ pub(crate) fn answer(lat: &[f64], lon: &[f64], words: &[u8]) {
     if begins(words, b"length ") {
         tell::double(lengths::length_to(lat, lon, index(words, 7)));
     } else if begins(words, b"first ") {
-        tell::number(projection::forward_shape_index(lat, lon, index(words, 6), point(words, 15)));
+        tell::number(near_vertex::forward_shape_index(lat, lon, index(words, 6), point(words, 15)));
     } else if begins(words, b"last ") {
-        tell::number(projection::forward_last_index(lat, lon, index(words, 5), point(words, 14)));
+        tell::number(near_vertex::forward_last_index(lat, lon, index(words, 5), point(words, 14)));
     } else if begins(words, b"nearest ") {
         tell::number(nearest::nearest_idx(lat, lon, point(words, 8)));
     } else if begins(words, b"scale ") {

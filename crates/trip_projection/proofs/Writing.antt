@@ -9,13 +9,14 @@ use Rattle.ids.specs.declared.lookup.Found.{Found}
 use Rattle.ids.specs.declared.lookup.Found.the-variants.{At, Nothing}
 use Rattle.ids.proofs.ByteOrder.{clash}
 use Rattle.lengths.specs.declared.line.Point.{Point}
-use Rattle.projection.specs.Near.{orVertex}
+use Rattle.near_vertex.specs.Near.{orVertex}
 use Rattle.projection.specs.Projection.{atStart, passedOf, projectionFrom, stepOf}
 use Rattle.projection.specs.declared.cursor.Cursor.{Cursor}
 use Rattle.projection.specs.declared.cursor.Passed.{Passed}
 use Rattle.projection.specs.declared.cursor.Position.{Position}
 use Rattle.projection.specs.declared.cursor.Position.the-variants.{Known, Missing}
-use Rattle.projection.proofs.Order.{first-most, same-count}
+use Rattle.near_vertex.proofs.Range.{first-most}
+use Rattle.projection.proofs.Order.{same-count}
 use Rattle.trip_projection.specs.declared.mark.Marked.{Marked}
 use Rattle.trip_projection.specs.Vertices.{wordOf, markedOf, positionsFrom, vertexWords}
 
