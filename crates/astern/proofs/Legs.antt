@@ -13,7 +13,7 @@ use Rattle.tables.specs.Refuse.{chartBounds, refusalOf}
 use Rattle.tables.specs.declared.lent.Tables.{Tables}
 use Rattle.checks.specs.Operations.{estimateCauses}
 use Rattle.trip_rows.specs.Rows.{shapeColumn}
-use Rattle.legs.specs.declared.path.End.{End}
+use Rattle.paths.specs.declared.path.End.{End}
 use Rattle.legs.proofs.Agree.{agrees}
 use Rattle.legs.proofs.Chosen.{path-few}
 use Rattle.legs.proofs.Onward.{never-earlier}

@@ -10,7 +10,7 @@ use Rattle.tables.specs.Pools.{Pools}
 use Rattle.tables.specs.Refuse.{chartBounds, refusalOf}
 use Rattle.tables.specs.declared.lent.Tables.{Tables}
 use Rattle.checks.specs.Operations.{estimateCauses}
-use Rattle.legs.specs.declared.path.End.{End}
+use Rattle.paths.specs.declared.path.End.{End}
 use Rattle.calls.specs.Calls.{reportedOf, updateStop, callArrivals}
 use Rattle.update_rows.specs.Updates.{bestRow}
 use Rattle.voyages.specs.Voyage.{Voyage}

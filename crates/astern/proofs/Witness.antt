@@ -24,7 +24,7 @@ use Rattle.tables.specs.Refuse.{chartBounds, refusalOf, failsOf, leastOf, joine
 use Rattle.tables.specs.declared.lent.Tables.{Tables}
 use Rattle.geometry_checks.specs.Operations.{geometryCauses}
 use Rattle.checks.specs.Operations.{estimateCauses, tripLookupCauses, calendarTablesCauses}
-use Rattle.legs.specs.declared.path.End.{End}
+use Rattle.paths.specs.declared.path.End.{End}
 use Rattle.stop_ids.specs.Stops.{textKeys, stopKeys, isPositioned, stopAt, firstStop, namedStop, stopOf}
 use Rattle.calls.specs.Calls.{reportedOf, updateStop, callStop, callRows, callStops, callArrivals, callDepartures}
 use Rattle.update_rows.specs.Rows.{passing}

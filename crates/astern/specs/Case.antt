@@ -12,9 +12,9 @@ use Rattle.tables.specs.Pools.{Pools, pools}
 use Rattle.tables.specs.declared.lent.Tables.{Tables}
 use Rattle.measure.specs.Answer.{given}
 use Rattle.stretches.specs.declared.spot.Way.the-variants.{With}
-use Rattle.legs.specs.declared.path.Line.the-variants.{Straight}
+use Rattle.paths.specs.declared.path.Line.the-variants.{Straight}
 use Rattle.legs.specs.declared.place.Place.the-variants.{Call, Stretch}
-use Rattle.legs.specs.declared.walk.Status.the-variants.{StoppedAt, InTransitTo}
+use Rattle.paths.specs.declared.status.Status.the-variants.{StoppedAt, InTransitTo}
 use Rattle.voyages.specs.declared.record.Outcome.{Outcome}
 use Rattle.voyages.specs.declared.record.Outcome.the-variants.{At}
 use Rattle.estimate.specs.Answers.{estimateOf}

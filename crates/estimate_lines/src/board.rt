@@ -3,8 +3,8 @@ use crate::asked;
 use case_tables::layout;
 use case_tables::limits;
 use estimate::Estimated;
-use legs::Status;
 use libc::STDOUT_FILENO;
+use paths::Status;
 use voyages::Estimate;
 
 // A status, as the Rust names it.

@@ -1,9 +1,9 @@
 // The place beside the estimate.
 use crate::asked;
 use estimate::Estimated;
-use legs::Line;
 use legs::Place;
 use libc::STDOUT_FILENO;
+use paths::Line;
 use stretches::Way;
 
 fn text(s: &[u8]) {

@@ -5,12 +5,12 @@ use Rattle.floats.specs.Number.{nought}
 use Rattle.measure.specs.Answer.{Answer, refused, given}
 use Rattle.stretches.specs.declared.spot.Way.{Way}
 use Rattle.stretches.specs.declared.spot.Way.the-variants.{With, Against}
-use Rattle.legs.specs.declared.path.Line.{Line}
-use Rattle.legs.specs.declared.path.Line.the-variants.{Shape, Chain, Straight}
+use Rattle.paths.specs.declared.path.Line.{Line}
+use Rattle.paths.specs.declared.path.Line.the-variants.{Shape, Chain, Straight}
 use Rattle.legs.specs.declared.place.Place.{Place}
 use Rattle.legs.specs.declared.place.Place.the-variants.{Call, Start, End, Stretch, NoStretch}
-use Rattle.legs.specs.declared.walk.Status.{Status}
-use Rattle.legs.specs.declared.walk.Status.the-variants.{StoppedAt, IncomingAt, OnShape, OnStopChain, InTransitTo}
+use Rattle.paths.specs.declared.status.Status.{Status}
+use Rattle.paths.specs.declared.status.Status.the-variants.{StoppedAt, IncomingAt, OnShape, OnStopChain, InTransitTo}
 use Rattle.voyages.specs.declared.record.Estimate.{Estimate}
 use Rattle.voyages.specs.declared.record.Outcome.{Outcome}
 use Rattle.voyages.specs.declared.record.Outcome.the-variants.{At, Silence}

@@ -1,8 +1,8 @@
 // An estimate's answer as numbers.
 use estimate::Estimated;
-use legs::Line;
 use legs::Place;
-use legs::Status;
+use paths::Line;
+use paths::Status;
 use stretches::Way;
 use voyages::Estimate;
 ghost use mathlib.Core.Bool.{cond};

@@ -19,9 +19,9 @@ use Rattle.trip_rows.specs.Rows.{shapeColumn}
 use Rattle.trip_samples.specs.declared.course.Course.{Course}
 use Rattle.chain_vertices.specs.Chain.{spanned, legChain}
 use Rattle.chain_vertices.specs.declared.chain.Chain.{Chain}
-use Rattle.legs.specs.Path.{overChain, overRoute, overSpan, pathOf}
-use Rattle.legs.specs.declared.path.End.{End}
-use Rattle.legs.specs.declared.path.Path.the-variants.{ByDistance}
+use Rattle.paths.specs.Path.{overChain, overRoute, overSpan, pathOf}
+use Rattle.paths.specs.declared.path.End.{End}
+use Rattle.paths.specs.declared.path.Path.the-variants.{ByDistance}
 use Rattle.leg_paths.specs.Leg.{legCount, legSpan, legShape, legRows, legStops, tripSpanned, tripPath}
 
 -- the shape, of the two columns that are read

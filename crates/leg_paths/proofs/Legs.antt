@@ -12,7 +12,7 @@ use Rattle.trip_samples.specs.declared.course.Course.{Course}
 use Rattle.chain_vertices.specs.Chain.{stopOf}
 use Rattle.chain_vertices.proofs.Standing.{two-or-more, rows-and-two, starts-at, ends-at}
 use Rattle.legs.specs.Granted.{Chained}
-use Rattle.legs.specs.declared.path.End.{End}
+use Rattle.paths.specs.declared.path.End.{End}
 use Rattle.legs.proofs.Chosen.{Chosen, straight, path-chosen}
 use Rattle.leg_paths.specs.Dist.{seqDist}
 use Rattle.leg_paths.specs.Leg.{legCount, legShape, legRows, legStops, tripPath, legPath}

@@ -12,8 +12,8 @@ use Rattle.ids.specs.declared.lookup.Found.the-variants.{At as Row, Nothing as 
 use Rattle.trip_rows.specs.Rows.{realOf}
 use Rattle.trip_samples.specs.Course.{isFlagged, rowAfter}
 use Rattle.trip_samples.specs.declared.course.Course.{Course}
-use Rattle.legs.specs.declared.path.Mark.{Mark}
-use Rattle.legs.specs.declared.path.Mark.the-variants.{At, Nothing}
+use Rattle.paths.specs.declared.path.Mark.{Mark}
+use Rattle.paths.specs.declared.path.Mark.the-variants.{At, Nothing}
 
 -- row k after `from` of a column of sequences has this one
 abbrev pub hasSequence : List ℕ → Span → ℕ → ℕ → ℕ → Bool

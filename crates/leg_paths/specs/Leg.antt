@@ -15,10 +15,10 @@ use Rattle.trip_samples.specs.Trip.{tripAffine}
 use Rattle.trip_samples.specs.declared.course.Course.{Course}
 use Rattle.chain_vertices.specs.Chain.{legChain, chainLine}
 use Rattle.chain_vertices.specs.declared.chain.Chain.{Chain}
-use Rattle.legs.specs.Path.{feedSpan, pathOf}
-use Rattle.legs.specs.declared.path.End.{End}
-use Rattle.legs.specs.declared.path.Path.{Path}
-use Rattle.legs.specs.declared.path.Path.the-variants.{Straight}
+use Rattle.paths.specs.Path.{feedSpan, pathOf}
+use Rattle.paths.specs.declared.path.End.{End}
+use Rattle.paths.specs.declared.path.Path.{Path}
+use Rattle.paths.specs.declared.path.Path.the-variants.{Straight}
 use Rattle.leg_paths.specs.Dist.{seqDist}
 
 -- how many rows a leg's trip has

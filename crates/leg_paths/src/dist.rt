@@ -2,7 +2,7 @@
 use ids::Found;
 use ids::Span;
 use ids::cell;
-use legs::Mark;
+use paths::Mark;
 use trip_samples::Course;
 use trip_samples::flagged;
 ghost use mathlib.Core.Path.{_≡_};

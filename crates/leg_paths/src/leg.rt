@@ -3,7 +3,7 @@ use chain_vertices::Chain;
 use chain_vertices::chain_of;
 use ids::Found;
 use ids::Span;
-use legs::End;
+use paths::End;
 use trip_rows::trip_span;
 use trip_samples::Course;
 ghost use mathlib.Core.Path.{_≡_};

@@ -13,13 +13,13 @@ use Rattle.stretches.specs.Drawing.{drawOf, lastOf}
 use Rattle.stretches.specs.declared.spot.Spot.{Spot}
 use Rattle.stretches.specs.declared.spot.Spot.the-variants.{First, Stretch, Straight, NoStretch}
 use Rattle.along_order.proofs.Along.{Inside}
-use Rattle.legs.specs.Path.{pathKind, pathLine, pathPart, pathWay, spotOf, pathOf}
+use Rattle.paths.specs.Path.{pathKind, pathLine, pathPart, pathWay, spotOf, pathOf}
 use Rattle.legs.specs.Place.{placeOf, coordinates, positionOf}
 use Rattle.legs.specs.Walk.{startOf, endOf, insideLeg, walkOf}
 use Rattle.legs.specs.Granted.{Chained}
-use Rattle.legs.specs.declared.path.Mark.{Mark}
-use Rattle.legs.specs.declared.path.Path.{Path}
-use Rattle.legs.specs.declared.path.Path.the-variants.{Straight as Path·straight}
+use Rattle.paths.specs.declared.path.Mark.{Mark}
+use Rattle.paths.specs.declared.path.Path.{Path}
+use Rattle.paths.specs.declared.path.Path.the-variants.{Straight as Path·straight}
 use Rattle.legs.specs.declared.walk.Walked.{Walked}
 use Rattle.legs.proofs.Spots.{OnPart}
 use Rattle.legs.proofs.Chosen.{Chosen, straight, path-chosen, Straightly, Partly, on-path}

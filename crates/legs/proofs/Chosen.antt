@@ -32,12 +32,12 @@ use Rattle.along_order.specs.Order.{NoEarlier as Spot·noEarlier}
 use Rattle.along_order.specs.Granted.{Distance}
 use Rattle.along_order.proofs.Along.{Inside, never-earlier-on-line, never-earlier-polyline}
 use Rattle.along_order.proofs.ByDistance.{never-earlier-by-distance}
-use Rattle.legs.specs.Path.{feedSpan, overSpan, overRoute, overChain, pathOf, pathLine, pathPart, pathWay, spotOf}
+use Rattle.paths.specs.Path.{feedSpan, overSpan, overRoute, overChain, pathOf, pathLine, pathPart, pathWay, spotOf}
 use Rattle.legs.specs.Granted.{Chained, Granted}
-use Rattle.legs.specs.declared.path.Mark.{Mark}
-use Rattle.legs.specs.declared.path.Mark.the-variants.{At, Nothing}
-use Rattle.legs.specs.declared.path.Path.{Path}
-use Rattle.legs.specs.declared.path.Path.the-variants.{ByDistance, Polyline, Straight as Path·straight}
+use Rattle.paths.specs.declared.path.Mark.{Mark}
+use Rattle.paths.specs.declared.path.Mark.the-variants.{At, Nothing}
+use Rattle.paths.specs.declared.path.Path.{Path}
+use Rattle.paths.specs.declared.path.Path.the-variants.{ByDistance, Polyline, Straight as Path·straight}
 use Rattle.legs.proofs.Spots.{OnPart, over-on-part, sailed-on-part, chain-on-part}
 
 -- ---- the four kinds

@@ -20,15 +20,15 @@ use Rattle.stretches.specs.declared.spot.Way.{Way}
 use Rattle.stretches.specs.declared.spot.Way.the-variants.{With, Against}
 use Rattle.along_order.specs.Order.{NoEarlier as Spot·noEarlier}
 use Rattle.along_order.proofs.Along.{Inside}
-use Rattle.legs.specs.Path.{pathKind, pathPart, pathWay, spotOf, pathOf}
+use Rattle.paths.specs.Path.{pathKind, pathPart, pathWay, spotOf, pathOf}
 use Rattle.legs.specs.Place.{placeOf}
 use Rattle.legs.specs.Walk.{startOf, endOf, insideLeg, walkOf}
 use Rattle.legs.specs.Order.{turnOf, Along, InLeg, NoEarlier}
 use Rattle.legs.specs.Granted.{Chained, Granted}
-use Rattle.legs.specs.declared.path.Mark.{Mark}
-use Rattle.legs.specs.declared.path.Path.{Path}
-use Rattle.legs.specs.declared.path.Path.the-variants.{Straight as Path·straight}
-use Rattle.legs.specs.declared.path.Line.{Line}
+use Rattle.paths.specs.declared.path.Mark.{Mark}
+use Rattle.paths.specs.declared.path.Path.{Path}
+use Rattle.paths.specs.declared.path.Path.the-variants.{Straight as Path·straight}
+use Rattle.paths.specs.declared.path.Line.{Line}
 use Rattle.legs.specs.declared.place.Place.the-variants.{End}
 use Rattle.legs.specs.declared.walk.Walked.{Walked}
 use Rattle.legs.proofs.Turns.{spot-turn}

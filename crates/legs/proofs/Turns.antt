@@ -11,12 +11,12 @@ use Rattle.lengths.specs.declared.line.Point.{Point}
 use Rattle.stretches.specs.declared.spot.Spot.{Spot}
 use Rattle.stretches.specs.declared.spot.Spot.the-variants.{First, Stretch, Straight, NoStretch}
 use Rattle.stretches.specs.declared.spot.Way.{Way}
-use Rattle.legs.specs.Path.{pathKind, pathWay, spotOf}
+use Rattle.paths.specs.Path.{pathKind, pathWay, spotOf}
 use Rattle.legs.specs.Place.{placeOf}
 use Rattle.legs.specs.Walk.{startOf, endOf, insideLeg, walkOf}
 use Rattle.legs.specs.Order.{turnOf, NoEarlier}
-use Rattle.legs.specs.declared.path.Path.{Path}
-use Rattle.legs.specs.declared.path.Line.{Line}
+use Rattle.paths.specs.declared.path.Path.{Path}
+use Rattle.paths.specs.declared.path.Line.{Line}
 use Rattle.legs.specs.declared.place.Place.{Place}
 use Rattle.legs.specs.declared.place.Place.the-variants.{Call}
 

@@ -6,8 +6,8 @@ use lib.ListN.{length}
 use Rattle.lengths.specs.declared.line.Point.{Point}
 use Rattle.stretches.specs.Part.{at, wholeOf}
 use Rattle.along_order.specs.Granted.{Lengths, Distance}
-use Rattle.legs.specs.declared.path.Path.{Path}
-use Rattle.legs.specs.declared.path.Path.the-variants.{ByDistance, Polyline, Chain, Straight}
+use Rattle.paths.specs.declared.path.Path.{Path}
+use Rattle.paths.specs.declared.path.Path.the-variants.{ByDistance, Polyline, Chain, Straight}
 
 -- a chain of stops from one end of a leg to the other
 pub record Chained (from to : Point) (chain : List Point) : Type 0 where

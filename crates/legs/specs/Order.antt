@@ -7,7 +7,7 @@ use lib.Ieee.{Float, le}
 use Rattle.stretches.specs.Spot.{turnedOf}
 use Rattle.stretches.specs.declared.spot.Way.{Way}
 use Rattle.stretches.specs.declared.spot.Way.the-variants.{With, Against}
-use Rattle.legs.specs.declared.path.Line.{Line}
+use Rattle.paths.specs.declared.path.Line.{Line}
 use Rattle.legs.specs.declared.place.Place.{Place}
 use Rattle.legs.specs.declared.place.Place.the-variants.{Call, Start, End, Stretch, NoStretch}
 

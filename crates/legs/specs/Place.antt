@@ -9,10 +9,10 @@ use Rattle.stretches.specs.declared.spot.Spot.{Spot}
 use Rattle.stretches.specs.declared.spot.Spot.the-variants.{First, Stretch as Spot·stretch, Straight as Spot·straight, NoStretch as Spot·none}
 use Rattle.stretches.specs.declared.spot.Way.{Way}
 use Rattle.stretches.specs.declared.spot.Way.the-variants.{With}
-use Rattle.legs.specs.Path.{legLine, pathPart}
-use Rattle.legs.specs.declared.path.Path.{Path}
-use Rattle.legs.specs.declared.path.Line.{Line}
-use Rattle.legs.specs.declared.path.Line.the-variants.{Straight}
+use Rattle.paths.specs.Path.{legLine, pathPart}
+use Rattle.paths.specs.declared.path.Path.{Path}
+use Rattle.paths.specs.declared.path.Line.{Line}
+use Rattle.paths.specs.declared.path.Line.the-variants.{Straight}
 use Rattle.legs.specs.declared.place.Place.{Place}
 use Rattle.legs.specs.declared.place.Place.the-variants.{Call, Start, End, Stretch, NoStretch}
 

@@ -8,11 +8,11 @@ use Rattle.lengths.specs.declared.line.Point.{Point}
 use Rattle.stretches.specs.Drawing.{bearingOfWay, drawOf, heldAt}
 use Rattle.stretches.specs.declared.drawing.Drawn.{Drawn}
 use Rattle.stretches.specs.declared.spot.Spot.{Spot}
-use Rattle.legs.specs.Path.{pathKind, pathLine, pathPart, pathStatus, pathWay, spotOf}
+use Rattle.paths.specs.Path.{pathKind, pathLine, pathPart, pathStatus, pathWay, spotOf}
 use Rattle.legs.specs.Place.{placeOf}
-use Rattle.legs.specs.declared.path.Path.{Path}
+use Rattle.paths.specs.declared.path.Path.{Path}
 use Rattle.legs.specs.declared.place.Place.the-variants.{Start, End}
-use Rattle.legs.specs.declared.walk.Status.the-variants.{InTransitTo}
+use Rattle.paths.specs.declared.status.Status.the-variants.{InTransitTo}
 use Rattle.legs.specs.declared.walk.Walked.{Walked}
 
 -- at leg k's start: the stop's own position, towards the leg's end

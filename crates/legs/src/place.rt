@@ -1,7 +1,7 @@
 // Where a ferry is. Legs and calls count from 1, and leg k leads to call k.
 ghost use mathlib.Core.Path.{_≡_};
 ghost use Rattle.legs.specs.Place.{placeOf};
-use crate::path::Line;
+use paths::Line;
 use stretches::Spot;
 use stretches::Way;
 

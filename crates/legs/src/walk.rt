@@ -1,24 +1,17 @@
 // What a walk along a leg gives: the place, the position with bearing, and the status.
 ghost use mathlib.Core.Path.{_≡_};
 ghost use Rattle.legs.specs.Walk.{endOf, onPath, startOf};
-use crate::path::Path;
-use crate::path::path_kind;
-use crate::path::path_status;
-use crate::path::path_way;
 use crate::place::Place;
 use crate::place::place_of;
 use lengths::Point;
 use measure::bearing;
+use paths::Path;
+use paths::Status;
+use paths::path_kind;
+use paths::path_status;
+use paths::path_way;
 use stretches::Drawn;
 use stretches::Spot;
-
-pub enum Status {
-    StoppedAt,
-    IncomingAt,
-    OnShape,
-    OnStopChain,
-    InTransitTo,
-}
 
 pub struct Walked {
     pub place: Place,

@@ -11,8 +11,8 @@ use Rattle.tables.specs.declared.lent.Tables.{Tables}
 use Rattle.previous.specs.Run.{runOf}
 use Rattle.timeline.specs.Turn.{timeAt}
 use Rattle.timeline.specs.Fraction.{approachFraction, legFraction}
-use Rattle.legs.specs.declared.path.End.{End}
-use Rattle.legs.specs.declared.walk.Status.{Status}
+use Rattle.paths.specs.declared.path.End.{End}
+use Rattle.paths.specs.declared.status.Status.{Status}
 use Rattle.legs.specs.declared.walk.Walked.{Walked}
 use Rattle.voyages.specs.Record.{onLeg}
 use Rattle.voyages.specs.Outcome.{walkLeg, approachStatus, approaching, underWayAt}

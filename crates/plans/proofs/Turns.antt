@@ -8,7 +8,7 @@ use Rattle.ids.specs.declared.lookup.Found.{Found}
 use Rattle.tables.specs.Pools.{Pools}
 use Rattle.tables.specs.declared.lent.Tables.{Tables}
 use Rattle.previous.specs.Before.{prevRow}
-use Rattle.legs.specs.declared.path.End.{End}
+use Rattle.paths.specs.declared.path.End.{End}
 use Rattle.timeline.specs.Turn.{timeAt}
 use Rattle.sailings.specs.Sailing.{sailingTrip}
 use Rattle.voyages.specs.Outcome.{approaching, towardsAt}

@@ -16,7 +16,7 @@ use Rattle.update_rows.specs.Updates.{bestRow}
 use Rattle.sailings.specs.Sailing.{isCancelled, sailingTrip}
 use Rattle.previous.specs.Before.{prevRow}
 use Rattle.previous.specs.Run.{runOf}
-use Rattle.legs.specs.declared.path.End.{End}
+use Rattle.paths.specs.declared.path.End.{End}
 use Rattle.leg_paths.specs.Leg.{legShape, legStops, legPath}
 use Rattle.voyages.specs.Voyage.{Leg, Approach, none, over, Pin, unplaced, pinned, Voyage}
 

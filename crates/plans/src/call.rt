@@ -1,8 +1,8 @@
 // At a call. Calls are lent as columns: their rows in the updates, and their stops.
 use ids::cell;
 use ids::word;
-use legs::End;
-use legs::Status;
+use paths::End;
+use paths::Status;
 use tables::Tables;
 use trip_rows::stop_point;
 use voyages::Outcome;

@@ -1,8 +1,8 @@
 // On a leg: from an end to another, along the path of the static trip.
 use ids::Found;
 use leg_paths::path_of;
-use legs::End;
 use legs::Walked;
+use paths::End;
 use tables::Tables;
 use trip_samples::Course;
 use walks::walk;

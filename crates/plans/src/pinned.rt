@@ -3,7 +3,7 @@ use calls::Reported;
 use calls::update_stop;
 use ids::Found;
 use ids::cell;
-use legs::Status;
+use paths::Status;
 use stop_ids::Lookup;
 use tables::Tables;
 use trip_rows::stop_point;

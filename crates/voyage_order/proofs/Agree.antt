@@ -12,12 +12,12 @@ use Rattle.stretches.specs.declared.spot.Spot.{Spot}
 use Rattle.stretches.specs.declared.spot.Spot.the-variants.{First, Stretch, Straight, NoStretch}
 use Rattle.stretches.specs.declared.spot.Way.{Way}
 use Rattle.lengths.specs.declared.line.Point.{Point}
-use Rattle.legs.specs.Path.{spotOf}
+use Rattle.paths.specs.Path.{spotOf}
 use Rattle.legs.specs.Place.{placeOf, coordinates}
 use Rattle.legs.specs.Walk.{walkOf, startOf, endOf, insideLeg}
-use Rattle.legs.specs.declared.path.Line.{Line}
-use Rattle.legs.specs.declared.walk.Status.{Status}
-use Rattle.legs.specs.declared.walk.Status.the-variants.{InTransitTo}
+use Rattle.paths.specs.declared.path.Line.{Line}
+use Rattle.paths.specs.declared.status.Status.{Status}
+use Rattle.paths.specs.declared.status.Status.the-variants.{InTransitTo}
 use Rattle.timeline.specs.Turn.{timeAt, turnOf}
 use Rattle.timeline.specs.Fraction.{legFraction, approachFraction}
 use Rattle.timeline.specs.declared.turn.Turn.{Turn}

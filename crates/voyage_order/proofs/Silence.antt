@@ -10,7 +10,7 @@ use lib.Dec.{eqb, ltb}
 use lib.ListN.{length}
 use Rattle.ids.proofs.ByteOrder.{clash}
 use Rattle.lengths.specs.declared.line.Point.{Point}
-use Rattle.legs.specs.declared.walk.Status.the-variants.{InTransitTo}
+use Rattle.paths.specs.declared.status.Status.the-variants.{InTransitTo}
 use Rattle.timeline.specs.Turn.{timeAt, turnOf}
 use Rattle.timeline.specs.declared.turn.Turn.{Turn}
 use Rattle.timeline.specs.declared.turn.Turn.the-variants.{At, Between, Towards, After}

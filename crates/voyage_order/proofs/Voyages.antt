@@ -15,8 +15,8 @@ use Rattle.ids.proofs.ByteOrder.{clash}
 use Rattle.legs.specs.Order.{NoEarlier, turnOf}
 use Rattle.legs.specs.declared.place.Place.{Place}
 use Rattle.legs.specs.declared.place.Place.the-variants.{Call}
-use Rattle.legs.specs.declared.walk.Status.{Status}
-use Rattle.legs.specs.declared.walk.Status.the-variants.{StoppedAt, IncomingAt, InTransitTo}
+use Rattle.paths.specs.declared.status.Status.{Status}
+use Rattle.paths.specs.declared.status.Status.the-variants.{StoppedAt, IncomingAt, InTransitTo}
 use Rattle.timeline.specs.Turn.{timeAt}
 use Rattle.timeline.specs.Turn.{turnOf as clockTurn}
 use Rattle.timeline.specs.Fraction.{legFraction, approachFraction}

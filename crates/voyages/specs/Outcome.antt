@@ -9,8 +9,8 @@ use Rattle.timeline.specs.Fraction.{legFraction, approachFraction, isIncoming}
 use Rattle.timeline.specs.declared.turn.Turn.{Turn}
 use Rattle.timeline.specs.declared.turn.Turn.the-variants.{At, Between, Towards, After}
 use Rattle.legs.specs.Walk.{walkOf}
-use Rattle.legs.specs.declared.walk.Status.{Status}
-use Rattle.legs.specs.declared.walk.Status.the-variants.{StoppedAt, IncomingAt, InTransitTo}
+use Rattle.paths.specs.declared.status.Status.{Status}
+use Rattle.paths.specs.declared.status.Status.the-variants.{StoppedAt, IncomingAt, InTransitTo}
 use Rattle.legs.specs.declared.walk.Walked.{Walked}
 use Rattle.voyages.specs.Record.{atStop, onLeg}
 use Rattle.voyages.specs.Voyage.{Leg, Approach, none, over, Pin, unplaced, pinned, Voyage}

@@ -4,7 +4,7 @@ use mathlib.Core.Bool.{true, false}
 use Rattle.floats.specs.Number.{nought}
 use Rattle.lengths.specs.declared.line.Point.{Point}
 use Rattle.legs.specs.declared.place.Place.the-variants.{Call}
-use Rattle.legs.specs.declared.walk.Status.{Status}
+use Rattle.paths.specs.declared.status.Status.{Status}
 use Rattle.legs.specs.declared.walk.Walked.{Walked}
 use Rattle.voyages.specs.declared.record.Outcome.{Outcome}
 use Rattle.voyages.specs.declared.record.Outcome.the-variants.{At}

@@ -3,7 +3,7 @@ use Prim.Native.Nat.{ℕ}
 use mathlib.Core.Bool.{Bool}
 use mathlib.Core.List.{List}
 use Rattle.lengths.specs.declared.line.Point.{Point}
-use Rattle.legs.specs.declared.path.Path.{Path}
+use Rattle.paths.specs.declared.path.Path.{Path}
 
 -- a leg: its ends, the lines that a place on it may be counted over, and the path
 pub record Leg : Type 0 where

@@ -2,9 +2,9 @@
 ghost use mathlib.Core.Path.{_≡_};
 ghost use Rattle.voyages.specs.Record.{atStop, onLeg};
 use legs::Place;
-use legs::Status;
 use legs::Walked;
 use lengths::Point;
+use paths::Status;
 
 // Where she is, and how that was found.
 pub struct Estimate {

@@ -7,7 +7,7 @@ use lib.Ieee.{Float, le}
 use Rattle.floats.specs.Number.{nought, one}
 use Rattle.lengths.specs.declared.line.Point.{Point}
 use Rattle.legs.specs.Walk.{startOf, endOf, insideLeg, walkOf}
-use Rattle.legs.specs.declared.path.Path.{Path}
+use Rattle.paths.specs.declared.path.Path.{Path}
 
 -- a walk at a leg's start, at its end, and between
 module _ (k : ℕ) (shape chain : List Point) (from to : Point) (path : Path) (frac : Float) where

@@ -16,9 +16,9 @@ use Rattle.polylines.specs.Polyline.{spotAlong}
 use Rattle.trip_samples.specs.declared.course.Course.{Course}
 use Rattle.chain_vertices.specs.Chain.{two}
 use Rattle.legs.specs.Walk.{onPath, walkOf}
-use Rattle.legs.specs.declared.path.End.{End}
-use Rattle.legs.specs.declared.path.Path.{Path}
-use Rattle.legs.specs.declared.path.Path.the-variants.{ByDistance, Polyline, Chain, Straight}
+use Rattle.paths.specs.declared.path.End.{End}
+use Rattle.paths.specs.declared.path.Path.{Path}
+use Rattle.paths.specs.declared.path.Path.the-variants.{ByDistance, Polyline, Chain, Straight}
 use Rattle.legs.specs.declared.walk.Walked.{Walked}
 use Rattle.leg_paths.specs.Leg.{legShape, legStops}
 

@@ -1,7 +1,7 @@
--- `legs::path::feed_span` meets its contract.
+-- `paths::path::feed_span` meets its contract.
 use borrow.Author.Needs.{needs}
-use Rattle.legs.proofs.path.feed_span.Statement.{statement}
-use Rattle.legs.proofs.path.feed_span.Tie as tie
+use Rattle.paths.proofs.path.feed_span.Statement.{statement}
+use Rattle.paths.proofs.path.feed_span.Tie as tie
 
 enum-known-calibrated : tie.Need-enum-known-calibrated
 enum-known-calibrated c = search needs

@@ -1,7 +1,7 @@
 // How a leg is drawn: what the Rust's `interpolate_segment` tries in turn, and its `PathGeom`.
 ghost use mathlib.Core.Path.{_≡_};
-ghost use Rattle.legs.specs.Path.{feedSpan, pathKind, pathStatus, pathWay};
-use crate::walk::Status;
+ghost use Rattle.paths.specs.Path.{feedSpan, pathKind, pathStatus, pathWay};
+use crate::status::Status;
 use by_distance::Span;
 use by_distance::Spanned;
 use by_distance::feed_metres;

@@ -21,14 +21,14 @@ use Rattle.routes.specs.Route.{routeOf, alongOf}
 use Rattle.polylines.specs.Polyline.{routeBetween, spotAlong}
 use Rattle.polylines.specs.declared.polyline.Routed.{Routed}
 use Rattle.polylines.specs.declared.polyline.Routed.the-variants.{Over as Routed·over, Nothing as Routed·nothing}
-use Rattle.legs.specs.declared.path.Mark.{Mark}
-use Rattle.legs.specs.declared.path.Mark.the-variants.{At, Nothing}
-use Rattle.legs.specs.declared.path.Path.{Path}
-use Rattle.legs.specs.declared.path.Path.the-variants.{ByDistance, Polyline, Chain, Straight}
-use Rattle.legs.specs.declared.path.Line.{Line}
-use Rattle.legs.specs.declared.path.Line.the-variants.{Shape, Chain as Line·chain, Straight as Line·straight}
-use Rattle.legs.specs.declared.walk.Status.{Status}
-use Rattle.legs.specs.declared.walk.Status.the-variants.{OnShape, OnStopChain, InTransitTo}
+use Rattle.paths.specs.declared.path.Mark.{Mark}
+use Rattle.paths.specs.declared.path.Mark.the-variants.{At, Nothing}
+use Rattle.paths.specs.declared.path.Path.{Path}
+use Rattle.paths.specs.declared.path.Path.the-variants.{ByDistance, Polyline, Chain, Straight}
+use Rattle.paths.specs.declared.path.Line.{Line}
+use Rattle.paths.specs.declared.path.Line.the-variants.{Shape, Chain as Line·chain, Straight as Line·straight}
+use Rattle.paths.specs.declared.status.Status.{Status}
+use Rattle.paths.specs.declared.status.Status.the-variants.{OnShape, OnStopChain, InTransitTo}
 
 -- ---- the choice
 
