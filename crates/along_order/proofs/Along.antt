@@ -16,10 +16,10 @@ use Rattle.floats.proofs.Sums.{one-less-pos}
 use Rattle.floats.proofs.Within.{within-finite}
 use Rattle.ieee.specs.Number.{clamp01Of}
 use Rattle.lengths.specs.declared.line.Point.{Point}
-use Rattle.stretches.specs.Part.{stretches, lengthFrom, partLength}
+use Rattle.line_parts.specs.Part.{stretches, lengthFrom, partLength}
 use Rattle.stretches.specs.Search.{firstMet, stretchAt}
 use Rattle.stretches.specs.Spot.{turnedOf}
-use Rattle.stretches.specs.declared.part.Part.{Part}
+use Rattle.line_parts.specs.declared.part.Part.{Part}
 use Rattle.stretches.specs.declared.spot.Spot.{Spot}
 use Rattle.stretches.specs.declared.spot.Spot.the-variants.{First, Straight, NoStretch}
 use Rattle.stretches.specs.declared.spot.Way.{Way}

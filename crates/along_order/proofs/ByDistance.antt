@@ -16,7 +16,7 @@ use Rattle.floats.proofs.Within.{Within, fits-within, le-within, within-finite,
 use Rattle.ieee.specs.Number.{absOf, clamp01Of}
 use Rattle.ieee.specs.Single.{narrowOf}
 use Rattle.lengths.specs.declared.line.Point.{Point}
-use Rattle.stretches.specs.Part.{stretches, wholeOf, lengthFrom}
+use Rattle.line_parts.specs.Part.{stretches, wholeOf, lengthFrom}
 use Rattle.stretches.specs.Search.{micro, stretchAt}
 use Rattle.stretches.specs.declared.spot.Way.{Way}
 use Rattle.stretches.specs.declared.spot.Way.the-variants.{With, Against}

@@ -11,7 +11,7 @@ use Rattle.floats.specs.Number.{nought}
 use Rattle.floats.proofs.Order.{finite-number, le-number-right, trans-le, lt-le, not-le-lt}
 use Rattle.floats.proofs.Sums.{add-nonneg, add-up}
 use Rattle.stretches.specs.Search.{meets, fractionOf, firstMet}
-use Rattle.stretches.specs.declared.part.Part.{Part}
+use Rattle.line_parts.specs.declared.part.Part.{Part}
 use Rattle.stretches.specs.declared.spot.Spot.{Spot}
 use Rattle.stretches.specs.declared.spot.Spot.the-variants.{Stretch, NoStretch}
 use Rattle.along_order.specs.Order.{rankOf, fractionAt}

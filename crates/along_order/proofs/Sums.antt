@@ -14,8 +14,8 @@ use Rattle.floats.proofs.Within.{Within, within-add, within-weaken}
 use Rattle.maths.proofs.Bounds.{Bounded}
 use Rattle.measure.proofs.Lengths.{length-bounded}
 use Rattle.lengths.specs.declared.line.Point.{Point}
-use Rattle.stretches.specs.Part.{at, stretches, stretchLength, lengthFrom}
-use Rattle.stretches.specs.declared.part.Part.{Part}
+use Rattle.line_parts.specs.Part.{at, stretches, stretchLength, lengthFrom}
+use Rattle.line_parts.specs.declared.part.Part.{Part}
 use Rattle.along_order.specs.Granted.{Lengths}
 use Rattle.along_order.proofs.Clamp.{zero-zero}
 use Rattle.along_order.proofs.Search.{Rising}

@@ -7,7 +7,7 @@ use Rattle.floats.specs.Number.{nought, one}
 use Rattle.floats.proofs.Order.{le-number-left, le-number-right}
 use Rattle.floats.proofs.Sums.{sub-number-left, sub-anti, one-less-nonneg, one-less-le}
 use Rattle.stretches.specs.Spot.{turnedOf}
-use Rattle.stretches.specs.declared.part.Part.{Part}
+use Rattle.line_parts.specs.declared.part.Part.{Part}
 use Rattle.stretches.specs.declared.spot.Spot.{Spot}
 use Rattle.stretches.specs.declared.spot.Way.{Way}
 use Rattle.stretches.specs.declared.spot.Way.the-variants.{With, Against}

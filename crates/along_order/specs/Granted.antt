@@ -6,8 +6,8 @@ use lib.Ieee.{Float, le, binary32, fits}
 use lib.Ieee.Scale.{finite}
 use Rattle.floats.specs.Number.{nought}
 use Rattle.lengths.specs.declared.line.Point.{Point}
-use Rattle.stretches.specs.Part.{stretchLength}
-use Rattle.stretches.specs.declared.part.Part.{Part}
+use Rattle.line_parts.specs.Part.{stretchLength}
+use Rattle.line_parts.specs.declared.part.Part.{Part}
 
 -- each length of a part is a number of zero or more
 abbrev pub Lengths : List Point → Part → Type 0

@@ -6,7 +6,7 @@ use lib.Dec.{T}
 use lib.Ieee.{Float, le}
 use Rattle.floats.specs.Number.{nought}
 use Rattle.stretches.specs.Spot.{turnedOf}
-use Rattle.stretches.specs.declared.part.Part.{Part}
+use Rattle.line_parts.specs.declared.part.Part.{Part}
 use Rattle.stretches.specs.declared.spot.Spot.{Spot}
 use Rattle.stretches.specs.declared.spot.Spot.the-variants.{First, Stretch, Straight, NoStretch}
 use Rattle.stretches.specs.declared.spot.Way.{Way}

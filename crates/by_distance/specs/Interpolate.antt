@@ -5,7 +5,7 @@ use lib.Dec.{ltb}
 use lib.Ieee.{Float}
 use lib.ListN.{length}
 use Rattle.lengths.specs.declared.line.Point.{Point}
-use Rattle.stretches.specs.Part.{wholeOf}
+use Rattle.line_parts.specs.Part.{wholeOf}
 use Rattle.stretches.specs.Search.{micro, stretchAt}
 use Rattle.stretches.specs.Drawing.{drawOf}
 use Rattle.stretches.specs.declared.spot.Spot.{Spot}

@@ -8,11 +8,11 @@ use crate::span::feed_metres;
 use crate::span::span_of;
 use crate::span::target;
 use lengths::vertices;
+use line_parts::whole;
 use stretches::Interpolated;
 use stretches::Spot;
 use stretches::draw;
 use stretches::stretch_at;
-use stretches::whole;
 
 // Where a span is at a fraction of it in sailing direction.
 pub fn spot_over(lat: &[f64], lon: &[f64], span: Span, frac: f64) -> Spot

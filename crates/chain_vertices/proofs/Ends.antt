@@ -11,7 +11,7 @@ use lib.Seq.{getD-set-same, getD-set-other}
 use borrow.Author.Tests.{ltb-true, ltb-false, lt-ltb, le-ltb}
 use Rattle.lengths.specs.Line.{nowhere}
 use Rattle.lengths.specs.declared.line.Point.{Point}
-use Rattle.stretches.specs.Part.{at}
+use Rattle.line_parts.specs.Part.{at}
 use Rattle.chain_vertices.specs.Thin.{ended, turnedIf}
 
 -- fewer than two, or not

@@ -12,7 +12,7 @@ use Rattle.ids.proofs.Search.{last-found}
 use Rattle.lengths.specs.Line.{nowhere}
 use Rattle.lengths.specs.declared.line.Point.{Point}
 use Rattle.projection.specs.declared.cursor.Position.{Position}
-use Rattle.stretches.specs.Part.{at}
+use Rattle.line_parts.specs.Part.{at}
 use Rattle.chain_vertices.specs.declared.chain.Chain.{Chain}
 use Rattle.chain_vertices.specs.declared.vertices.Here.{Here}
 use Rattle.chain_vertices.specs.Thin.{turnedIf, chainFrom, ended}

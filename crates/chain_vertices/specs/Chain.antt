@@ -10,7 +10,7 @@ use Rattle.tables.specs.declared.lent.Stops.{Stops}
 use Rattle.tables.specs.declared.lent.Trips.{Trips}
 use Rattle.lengths.specs.declared.line.Point.{Point}
 use Rattle.projection.specs.declared.cursor.Position.{Position}
-use Rattle.stretches.specs.declared.part.Part.{Part}
+use Rattle.line_parts.specs.declared.part.Part.{Part}
 use Rattle.chain_vertices.specs.declared.chain.Chain.{Chain}
 use Rattle.chain_vertices.specs.Thin.{chainFrom}
 use Rattle.chain_vertices.specs.Stops.{stopBetween, pointsBelow}

@@ -6,7 +6,7 @@ use mathlib.Core.Path.{_≡_}
 use lib.ListN.{length, drop}
 use Rattle.lengths.specs.declared.line.Point.{Point}
 use Rattle.projection.specs.declared.cursor.Position.{Position}
-use Rattle.stretches.specs.Part.{at}
+use Rattle.line_parts.specs.Part.{at}
 use Rattle.chain_vertices.specs.declared.chain.Chain.{Chain}
 use Rattle.chain_vertices.specs.declared.vertices.Here.{Here}
 use Rattle.chain_vertices.specs.Thin.{thinned, turnedIf}

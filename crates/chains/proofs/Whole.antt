@@ -6,7 +6,7 @@ use lib.Ieee.{Float}
 use lib.ListN.{length, getD, replicate}
 use borrow.Author.Tests.{lt-ltb, le-ltb}
 use Rattle.projection.specs.declared.cursor.Position.{Position}
-use Rattle.stretches.specs.Part.{partLength}
+use Rattle.line_parts.specs.Part.{partLength}
 use Rattle.routes.specs.Route.{routeOf}
 use Rattle.routes.specs.declared.route.Route.{Route}
 use Rattle.chain_vertices.specs.declared.chain.Chain.{Chain}

@@ -5,7 +5,7 @@ use mathlib.Core.List.{List}
 use lib.Dec.{ltb}
 use lib.Ieee.{Float}
 use Rattle.lengths.specs.declared.line.Point.{Point}
-use Rattle.stretches.specs.Part.{wholeOf}
+use Rattle.line_parts.specs.Part.{wholeOf}
 use Rattle.stretches.specs.Drawing.{drawOf}
 use Rattle.routes.specs.Route.{routeOf, alongOf}
 use Rattle.routes.specs.declared.route.Route.{Route}

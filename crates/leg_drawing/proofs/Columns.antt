@@ -7,7 +7,7 @@ use lib.Ieee.{Float}
 use lib.ListN.{length, take, drop, length-take, length-drop, length-map}
 use Rattle.lengths.specs.Line.{lineOf}
 use Rattle.lengths.proofs.Rows.{vertex-count}
-use Rattle.stretches.specs.declared.part.Part.{Part}
+use Rattle.line_parts.specs.declared.part.Part.{Part}
 use Rattle.projection.specs.declared.cursor.Position.{Position}
 use Rattle.point_columns.specs.Drawn.{latsOf, lonsOf}
 use Rattle.leg_points.specs.Leg.{legPart, verticesOf, partDrawn}

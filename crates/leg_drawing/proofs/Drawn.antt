@@ -5,7 +5,7 @@ use mathlib.Core.Path.{_≡_, refl}
 use mathlib.Core.List.{List, [], _∷_}
 use Rattle.ids.specs.declared.lookup.Found.the-variants.{At}
 use Rattle.lengths.specs.declared.line.Point.{Point}
-use Rattle.stretches.specs.declared.part.Part.{Part}
+use Rattle.line_parts.specs.declared.part.Part.{Part}
 use Rattle.projection.specs.Projection.{atStart}
 use Rattle.projection.specs.declared.cursor.Position.{Position}
 use Rattle.projection.proofs.Order.{in-order}

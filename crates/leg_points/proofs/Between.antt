@@ -12,8 +12,8 @@ use Rattle.ids.specs.declared.lookup.Found.{Found}
 use Rattle.ids.specs.declared.lookup.Found.the-variants.{At, Nothing}
 use Rattle.ids.proofs.ByteOrder.{clash}
 use Rattle.lengths.specs.declared.line.Point.{Point}
-use Rattle.stretches.specs.Part.{wholeOf}
-use Rattle.stretches.specs.declared.part.Part.{Part}
+use Rattle.line_parts.specs.Part.{wholeOf}
+use Rattle.line_parts.specs.declared.part.Part.{Part}
 use Rattle.near_vertex.specs.Forward.{forwardShapeIndex}
 use Rattle.projection.specs.Projection.{atStart, stepOf, passedOf, cursorAfter, projectionFrom}
 use Rattle.projection.specs.declared.cursor.Cursor.{Cursor}

@@ -9,8 +9,8 @@ use Rattle.ids.specs.declared.lookup.Found.{Found}
 use Rattle.ids.specs.declared.lookup.Found.the-variants.{At, Nothing}
 use Rattle.ieee.specs.Number.{absOf}
 use Rattle.lengths.specs.declared.line.Point.{Point}
-use Rattle.stretches.specs.Part.{wholeOf}
-use Rattle.stretches.specs.declared.part.Part.{Part}
+use Rattle.line_parts.specs.Part.{wholeOf}
+use Rattle.line_parts.specs.declared.part.Part.{Part}
 use Rattle.calibration.specs.Scale.{decimal}
 use Rattle.projection.specs.Projection.{projectionOf}
 use Rattle.projection.specs.declared.cursor.Position.{Position}

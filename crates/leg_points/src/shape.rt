@@ -1,9 +1,9 @@
 // The part of the shape that a leg is drawn along.
 use crate::ends::leg_ends;
+use line_parts::Part;
+use line_parts::whole;
 use projection::Cursor;
 use projection::Position;
-use stretches::Part;
-use stretches::whole;
 use tables::StopTimes;
 use tables::Stops;
 use trip_rows::row_position;

@@ -13,8 +13,8 @@ use Rattle.ieee.specs.Number.{absOf}
 use Rattle.lengths.specs.declared.line.Point.{Point}
 use Rattle.calibration.specs.declared.affine.Calibrated.{Calibrated}
 use Rattle.calibration.specs.declared.affine.Calibrated.the-variants.{By, Nothing as Uncalibrated}
-use Rattle.stretches.specs.Part.{at, stretches, wholeOf}
-use Rattle.stretches.specs.declared.part.Part.{Part}
+use Rattle.line_parts.specs.Part.{at, stretches, wholeOf}
+use Rattle.line_parts.specs.declared.part.Part.{Part}
 use Rattle.stretches.specs.declared.spot.Spot.the-variants.{Straight}
 use Rattle.stretches.specs.declared.spot.Way.{Way}
 use Rattle.stretches.specs.declared.spot.Way.the-variants.{With, Against}

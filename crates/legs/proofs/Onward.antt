@@ -12,8 +12,8 @@ use Rattle.floats.specs.Number.{nought, one}
 use Rattle.floats.proofs.Order.{trans-le}
 use Rattle.lengths.specs.declared.line.Point.{Point}
 use Rattle.calibration.specs.declared.affine.Calibrated.{Calibrated}
-use Rattle.stretches.specs.Part.{stretches}
-use Rattle.stretches.specs.declared.part.Part.{Part}
+use Rattle.line_parts.specs.Part.{stretches}
+use Rattle.line_parts.specs.declared.part.Part.{Part}
 use Rattle.stretches.specs.declared.spot.Spot.{Spot}
 use Rattle.stretches.specs.declared.spot.Spot.the-variants.{First, Stretch, Straight, NoStretch}
 use Rattle.stretches.specs.declared.spot.Way.{Way}

@@ -10,10 +10,10 @@ use lib.Ieee.{Float, binary64, mul, lt, le}
 use Rattle.floats.specs.Number.{nought, one}
 use Rattle.ieee.specs.Number.{clamp01Of}
 use Rattle.lengths.specs.declared.line.Point.{Point}
-use Rattle.stretches.specs.Part.{stretches, lengthFrom, partLength, wholeOf}
+use Rattle.line_parts.specs.Part.{stretches, lengthFrom, partLength, wholeOf}
 use Rattle.stretches.specs.Search.{micro, meets, fractionOf, firstMet, stretchAt}
 use Rattle.stretches.specs.Spot.{turnedOf}
-use Rattle.stretches.specs.declared.part.Part.{Part}
+use Rattle.line_parts.specs.declared.part.Part.{Part}
 use Rattle.stretches.specs.declared.spot.Spot.{Spot}
 use Rattle.stretches.specs.declared.spot.Spot.the-variants.{First, Stretch, Straight, NoStretch}
 use Rattle.stretches.specs.declared.spot.Way.{Way}

@@ -4,7 +4,7 @@ use mathlib.Core.Path.{_≡_}
 use mathlib.Core.List.{List}
 use lib.ListN.{length}
 use Rattle.lengths.specs.declared.line.Point.{Point}
-use Rattle.stretches.specs.Part.{at, wholeOf}
+use Rattle.line_parts.specs.Part.{at, wholeOf}
 use Rattle.along_order.specs.Granted.{Lengths, Distance}
 use Rattle.paths.specs.declared.path.Path.{Path}
 use Rattle.paths.specs.declared.path.Path.the-variants.{ByDistance, Polyline, Chain, Straight}

@@ -2,7 +2,7 @@
 use Prim.Native.Nat.{ℕ, suc}
 use mathlib.Core.List.{List}
 use Rattle.lengths.specs.declared.line.Point.{Point}
-use Rattle.stretches.specs.Part.{at}
+use Rattle.line_parts.specs.Part.{at}
 use Rattle.stretches.specs.Drawing.{betweenOf}
 use Rattle.stretches.specs.declared.drawing.Drawn.{Drawn}
 use Rattle.stretches.specs.declared.spot.Spot.{Spot}

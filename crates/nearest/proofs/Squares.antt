@@ -11,7 +11,7 @@ use Rattle.ieee.specs.Number.{leastOf}
 use Rattle.roots.specs.Root.{rootOf}
 use Rattle.lengths.specs.Line.{nowhere}
 use Rattle.lengths.specs.declared.line.Point.{Point}
-use Rattle.stretches.specs.Part.{at}
+use Rattle.line_parts.specs.Part.{at}
 use Rattle.nearest.specs.Squares.{squareOf, squaresOf, firstNear}
 
 module _ (stop : Point) (line : List Point) where

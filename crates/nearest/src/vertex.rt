@@ -11,7 +11,7 @@ ghost use Rattle.roots.specs.Root.{rootOf};
 use ieee::least;
 use lengths::Point;
 use lengths::vertices;
-use stretches::point;
+use line_parts::point;
 
 // The square of the distance between two points.
 fn square(p: Point, q: Point) -> f64

@@ -7,8 +7,8 @@ use lib.ListN.{length}
 use Rattle.lengths.specs.declared.line.Point.{Point}
 use Rattle.calibration.specs.declared.affine.Calibrated.{Calibrated}
 use Rattle.calibration.specs.declared.affine.Calibrated.the-variants.{By, Nothing as Uncalibrated}
-use Rattle.stretches.specs.Part.{wholeOf}
-use Rattle.stretches.specs.declared.part.Part.{Part}
+use Rattle.line_parts.specs.Part.{wholeOf}
+use Rattle.line_parts.specs.declared.part.Part.{Part}
 use Rattle.stretches.specs.declared.spot.Spot.{Spot}
 use Rattle.stretches.specs.declared.spot.Spot.the-variants.{Straight as Spot·straight}
 use Rattle.stretches.specs.declared.spot.Way.{Way}

@@ -10,7 +10,7 @@ use Rattle.lengths.specs.Line.{metresOf}
 use Rattle.lengths.specs.declared.line.Point.{Point}
 use Rattle.stretches.specs.Spot.{turnedOf}
 use Rattle.stretches.specs.Drawing.{drawOf}
-use Rattle.stretches.specs.declared.part.Part.{Part}
+use Rattle.line_parts.specs.declared.part.Part.{Part}
 use Rattle.stretches.specs.declared.spot.Spot.{Spot}
 use Rattle.stretches.specs.declared.spot.Way.{Way}
 use Rattle.stretches.specs.declared.spot.Way.the-variants.{With, Against}

@@ -7,10 +7,10 @@ use lib.ListN.{length}
 use Rattle.floats.specs.Number.{nought, one}
 use Rattle.maths.specs.Series.{whole}
 use Rattle.lengths.specs.declared.line.Point.{Point}
-use Rattle.stretches.specs.Part.{partLength, wholeOf}
+use Rattle.line_parts.specs.Part.{partLength, wholeOf}
 use Rattle.stretches.specs.Search.{stretchAt}
 use Rattle.stretches.specs.Drawing.{drawOf}
-use Rattle.stretches.specs.declared.part.Part.{Part}
+use Rattle.line_parts.specs.declared.part.Part.{Part}
 use Rattle.stretches.specs.declared.spot.Spot.{Spot}
 use Rattle.stretches.specs.declared.spot.Spot.the-variants.{First, Straight, NoStretch}
 use Rattle.stretches.specs.declared.drawing.Interpolated.{Interpolated}

@@ -3,13 +3,13 @@ ghost use mathlib.Core.Path.{_≡_};
 ghost use Rattle.lengths.specs.Line.{lineOf};
 ghost use Rattle.routes.specs.Route.{insideOf, alongOf, alongVertices, routeOf};
 use lengths::vertices;
+use line_parts::Part;
+use line_parts::part_length;
+use line_parts::whole;
 use stretches::Interpolated;
-use stretches::Part;
 use stretches::Spot;
 use stretches::draw;
-use stretches::part_length;
 use stretches::stretch_at;
-use stretches::whole;
 
 // A part, and its length in metres.
 pub struct Route {

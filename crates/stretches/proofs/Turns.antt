@@ -1,26 +1,11 @@
 -- What a turn of each loop over a part's stretches does. Assumes nothing.
 use Prim.Native.Nat.{ℕ, suc, _+_, _-_, _<_, _≤_}
 use native.Mathlib.Omega.{arith}
-use native.Mathlib.Numerals.{add-one}
 use mathlib.Core.Path.{_≡_}
 use mathlib.Core.Bool.{true, false}
-use mathlib.Core.List.{List}
-use lib.Ieee.{Float, binary64, add}
-use lib.ListN.{length, List·getD-eq-default}
-use Rattle.lengths.specs.Line.{nowhere}
-use Rattle.lengths.specs.declared.line.Point.{Point}
-use Rattle.stretches.specs.Part.{at, stretchLength, lengthFrom}
+use lib.Ieee.{Float}
 use Rattle.stretches.specs.Search.{meets, fractionOf, firstMet}
 use Rattle.stretches.specs.declared.spot.Spot.the-variants.{Stretch, NoStretch}
-
--- past its last, a line has no vertex
-pub no-vertex : (line : List Point) (k : ℕ) → length line ≤ k → at line k ≡ nowhere
-no-vertex line k h = List·getD-eq-default line nowhere h
-
--- the sum to the next vertex
-pub next-sum : (line : List Point) (a j : ℕ) → lengthFrom line a (j + 1) ≡ add binary64 (lengthFrom line a j) (stretchLength line (a + j))
-unfolding lengthFrom
-next-sum line a j = rw add-one
 
 module _ (sums : ℕ → Float) (a : ℕ) (tolerance target : Float) where
   -- a stretch that the target meets

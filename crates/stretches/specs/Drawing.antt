@@ -7,11 +7,11 @@ use lib.Ieee.{Float, binary64, add, sub, mul}
 use Rattle.floats.specs.Number.{nought}
 use Rattle.measure.specs.Measure.{bearingOf}
 use Rattle.lengths.specs.declared.line.Point.{Point}
-use Rattle.stretches.specs.declared.part.Part.{Part}
+use Rattle.line_parts.specs.declared.part.Part.{Part}
 use Rattle.stretches.specs.declared.spot.Spot.{Spot}
 use Rattle.stretches.specs.declared.spot.Spot.the-variants.{First, Stretch, Straight, NoStretch}
 use Rattle.stretches.specs.declared.drawing.Drawn.{Drawn}
-use Rattle.stretches.specs.Part.{at}
+use Rattle.line_parts.specs.Part.{at}
 
 -- the bearing from p to q
 abbrev pub bearingOfWay : Point → Point → Float

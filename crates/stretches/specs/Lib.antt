@@ -1,6 +1,5 @@
--- What the contracts cite. `Part`: a part of a line, and lengths along it. `Spot`: the way that a line is sailed. `Search`: the first stretch that a target meets.
+-- What the contracts cite. `Spot`: the way that a line is sailed. `Search`: the first stretch that a target meets.
 -- `Drawing`: the position and the bearing of a spot.
-pub mod Part
 pub mod Spot
 pub mod Search
 pub mod Drawing

@@ -7,10 +7,10 @@ use Rattle.floats.specs.Number.{one}
 use Rattle.ieee.specs.Number.{clamp01Of, maxOf}
 use Rattle.maths.specs.Series.{whole}
 use Rattle.lengths.specs.declared.line.Point.{Point}
-use Rattle.stretches.specs.declared.part.Part.{Part}
+use Rattle.line_parts.specs.declared.part.Part.{Part}
 use Rattle.stretches.specs.declared.spot.Spot.{Spot}
 use Rattle.stretches.specs.declared.spot.Spot.the-variants.{Stretch, NoStretch}
-use Rattle.stretches.specs.Part.{stretches, lengthFrom}
+use Rattle.line_parts.specs.Part.{stretches, lengthFrom}
 
 -- 1e-6
 unfoldable pub micro : Float

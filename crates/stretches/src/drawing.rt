@@ -2,12 +2,12 @@
 ghost use mathlib.Core.Path.{_≡_};
 ghost use Rattle.lengths.specs.Line.{lineOf};
 ghost use Rattle.stretches.specs.Drawing.{bearingOfWay, betweenOf, firstOf, lastOf, drawOf};
-use crate::part::Part;
-use crate::part::less;
-use crate::part::next_point;
-use crate::part::point;
 use crate::spot::Spot;
 use lengths::Point;
+use line_parts::Part;
+use line_parts::less;
+use line_parts::next_point;
+use line_parts::point;
 
 // In degrees.
 pub struct Drawn {

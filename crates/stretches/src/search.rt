@@ -2,12 +2,12 @@
 ghost use mathlib.Core.Path.{_≡_};
 ghost use Rattle.lengths.specs.Line.{lineOf};
 ghost use Rattle.stretches.specs.Search.{fractionOf, meets, stretchAt};
-use crate::part::Part;
-use crate::part::less;
-use crate::part::stretch_length;
 use crate::spot::Spot;
 use ieee::clamp01;
 use ieee::max_of;
+use line_parts::Part;
+use line_parts::less;
+use line_parts::stretch_length;
 
 // Whether a target is on the stretch from the length `from` to the length `to`, or no more than the
 // tolerance past it.

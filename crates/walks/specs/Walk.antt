@@ -4,7 +4,7 @@ use mathlib.Core.List.{List, [], _∷_}
 use lib.Ieee.{Float}
 use Rattle.ids.specs.declared.lookup.Found.{Found}
 use Rattle.lengths.specs.declared.line.Point.{Point}
-use Rattle.stretches.specs.Part.{wholeOf}
+use Rattle.line_parts.specs.Part.{wholeOf}
 use Rattle.stretches.specs.Drawing.{drawOf}
 use Rattle.stretches.specs.declared.spot.Spot.the-variants.{Straight as Spot·straight}
 use Rattle.stretches.specs.declared.spot.Way.{Way}

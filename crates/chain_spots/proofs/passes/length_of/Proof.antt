@@ -3,7 +3,7 @@ use Prim.Native.Nat.{suc, _+_, _-_, _≤_}
 use native.Mathlib.Omega.{arith}
 use mathlib.Core.Path.{_≡_, refl, ap, subst, _∙_}
 use lib.Ieee.{ofBits}
-use Rattle.stretches.specs.Part.{lengthFrom, partLength}
+use Rattle.line_parts.specs.Part.{lengthFrom, partLength}
 use Rattle.chain_vertices.specs.Chain.{stopOf, lineFrom}
 use Rattle.chain_vertices.specs.Vertices.{Stands}
 use Rattle.chain_spots.proofs.Turns.{stretch-is, sum-next}

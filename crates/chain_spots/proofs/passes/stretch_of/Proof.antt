@@ -3,7 +3,7 @@ use Prim.Native.Nat.{suc, _+_, _-_, _≤_}
 use native.Mathlib.Omega.{arith}
 use mathlib.Core.Path.{_≡_, refl, sym, ap, subst, _∙_}
 use lib.Ieee.{ofBits}
-use Rattle.stretches.specs.Part.{lengthFrom}
+use Rattle.line_parts.specs.Part.{lengthFrom}
 use Rattle.stretches.specs.Search.{firstMet, stretchAt}
 use Rattle.stretches.proofs.Turns.{over}
 use Rattle.routes.specs.Route.{nano}

@@ -5,7 +5,7 @@ use mathlib.Core.List.{List}
 use lib.Ieee.{lt, ofBits, ofInt}
 use Rattle.floats.specs.Number.{one}
 use Rattle.lengths.specs.declared.line.Point.{Point}
-use Rattle.stretches.specs.declared.part.Part.{Part}
+use Rattle.line_parts.specs.declared.part.Part.{Part}
 use Rattle.stretches.specs.declared.spot.Way.{Way}
 use Rattle.routes.specs.Route.{routeOf}
 use Rattle.polylines.specs.Polyline.{roundabout, routedOf}

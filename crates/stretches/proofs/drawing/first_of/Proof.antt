@@ -7,9 +7,9 @@ use borrow.Author.Tests.{lt-ltb, le-ltb}
 use lib.Ieee.{Float}
 use Rattle.floats.specs.Number.{nought}
 use Rattle.lengths.specs.declared.line.Point.{Point}
-use Rattle.stretches.specs.Part.{at}
+use Rattle.line_parts.specs.Part.{at}
 use Rattle.stretches.specs.Drawing.{bearingOfWay, heldAt, firstOf}
-use Rattle.stretches.specs.declared.part.Part.{Part}
+use Rattle.line_parts.specs.declared.part.Part.{Part}
 use Rattle.stretches.proofs.drawing.first_of.Statement.{statement}
 use Rattle.stretches.proofs.drawing.first_of.Tie as tie
 

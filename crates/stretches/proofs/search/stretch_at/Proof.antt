@@ -6,12 +6,13 @@ use mathlib.Core.List.{List}
 use mathlib.Core.Path.{_≡_, refl, sym, ap, _∙_}
 use lib.Ieee.{Float, binary64, add, ofBits}
 use Rattle.lengths.specs.Line.{lineOf}
-use Rattle.stretches.specs.Part.{stretchLength, lengthFrom}
+use Rattle.line_parts.specs.Part.{stretchLength, lengthFrom}
 use Rattle.stretches.specs.Search.{meets, fractionOf, firstMet, stretchAt}
 use Rattle.lengths.specs.declared.line.Point.{Point}
-use Rattle.stretches.specs.declared.part.Part.{Part}
+use Rattle.line_parts.specs.declared.part.Part.{Part}
 use Rattle.stretches.specs.declared.spot.Spot.the-variants.{Stretch}
-use Rattle.stretches.proofs.Turns.{next-sum, hit, miss, over}
+use Rattle.line_parts.proofs.Sums.{next-sum}
+use Rattle.stretches.proofs.Turns.{hit, miss, over}
 use Rattle.stretches.proofs.search.stretch_at.Statement.{statement}
 use Rattle.stretches.proofs.search.stretch_at.Tie as tie
 

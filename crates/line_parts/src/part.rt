@@ -4,7 +4,7 @@ ghost use mathlib.Core.Path.{_≡_};
 ghost use Prim.Native.Nat.{suc, _-_};
 ghost use lib.ListN.{getD};
 ghost use Rattle.lengths.specs.Line.{lineOf, nowhere};
-ghost use Rattle.stretches.specs.Part.{stretchLength, partLength, wholeOf};
+ghost use Rattle.line_parts.specs.Part.{stretchLength, partLength, wholeOf};
 use lengths::Point;
 use lengths::metres;
 use lengths::vertex;

@@ -1,6 +1,6 @@
--- `stretches::part::whole` meets its contract.
-use Rattle.stretches.proofs.part.whole.Statement.{statement}
-use Rattle.stretches.proofs.part.whole.Tie as tie
+-- `line_parts::part::whole` meets its contract.
+use Rattle.line_parts.proofs.part.whole.Statement.{statement}
+use Rattle.line_parts.proofs.part.whole.Tie as tie
 
 vertices-requires : tie.Need-vertices-requires
 vertices-requires c κs = tt

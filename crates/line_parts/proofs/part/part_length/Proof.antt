@@ -1,13 +1,13 @@
--- `stretches::part::part_length` meets its contract. The loop's invariant: the sum is the length over j stretches.
+-- `line_parts::part::part_length` meets its contract. The loop's invariant: the sum is the length over j stretches.
 use native.Mathlib.Omega.{arith}
 use Prim.Native.Nat.{_-_, _≤_}
 use mathlib.Core.Path.{_≡_, refl, sym, ap, _∙_}
 use lib.Ieee.{ofBits}
 use Rattle.lengths.specs.Line.{lineOf}
-use Rattle.stretches.specs.Part.{lengthFrom, partLength}
-use Rattle.stretches.proofs.Turns.{next-sum}
-use Rattle.stretches.proofs.part.part_length.Statement.{statement}
-use Rattle.stretches.proofs.part.part_length.Tie as tie
+use Rattle.line_parts.specs.Part.{lengthFrom, partLength}
+use Rattle.line_parts.proofs.Sums.{next-sum}
+use Rattle.line_parts.proofs.part.part_length.Statement.{statement}
+use Rattle.line_parts.proofs.part.part_length.Tie as tie
 
 abbrev Inv-loop : tie.InvT-loop
 Inv-loop lat lon part n sum₀ j₀ sum j = (j ≤ n) × (sum ≡ lengthFrom (lineOf lat lon) (part .first) j)

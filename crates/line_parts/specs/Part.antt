@@ -6,7 +6,7 @@ use lib.ListN.{length, getD}
 use Rattle.floats.specs.Number.{nought}
 use Rattle.lengths.specs.Line.{metresOf, nowhere}
 use Rattle.lengths.specs.declared.line.Point.{Point}
-use Rattle.stretches.specs.declared.part.Part.{Part}
+use Rattle.line_parts.specs.declared.part.Part.{Part}
 
 -- vertex k
 abbrev pub at : List Point → ℕ → Point

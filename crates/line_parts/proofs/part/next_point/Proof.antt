@@ -1,13 +1,13 @@
--- `stretches::part::next_point` meets its contract.
+-- `line_parts::part::next_point` meets its contract.
 use borrow.Author.Needs.{needs}
 use Prim.Native.Nat.{suc}
 use native.Mathlib.Omega.{arith}
 use native.Mathlib.Numerals.{add-one}
 use mathlib.Core.Path.{sym, _∙_}
 use Rattle.lengths.specs.Line.{lineOf}
-use Rattle.stretches.proofs.Turns.{no-vertex}
-use Rattle.stretches.proofs.part.next_point.Statement.{statement}
-use Rattle.stretches.proofs.part.next_point.Tie as tie
+use Rattle.line_parts.proofs.Sums.{no-vertex}
+use Rattle.line_parts.proofs.part.next_point.Statement.{statement}
+use Rattle.line_parts.proofs.part.next_point.Tie as tie
 
 vertices-requires : tie.Need-vertices-requires
 vertices-requires c κs = tt

@@ -1,11 +1,11 @@
--- `stretches::part::point` meets its contract.
+-- `line_parts::part::point` meets its contract.
 use native.Mathlib.Omega.{arith}
 use mathlib.Core.Path.{sym}
 use lib.Ieee.{div, ofBits}
 use Rattle.lengths.specs.Line.{lineOf}
-use Rattle.stretches.proofs.Turns.{no-vertex}
-use Rattle.stretches.proofs.part.point.Statement.{statement}
-use Rattle.stretches.proofs.part.point.Tie as tie
+use Rattle.line_parts.proofs.Sums.{no-vertex}
+use Rattle.line_parts.proofs.part.point.Statement.{statement}
+use Rattle.line_parts.proofs.part.point.Tie as tie
 
 vertices-requires : tie.Need-vertices-requires
 vertices-requires c κs = tt

@@ -1,7 +1,7 @@
--- `stretches::part::stretch_length` meets its contract.
-use Rattle.stretches.specs.Part.{stretchLength}
-use Rattle.stretches.proofs.part.stretch_length.Statement.{statement}
-use Rattle.stretches.proofs.part.stretch_length.Tie as tie
+-- `line_parts::part::stretch_length` meets its contract.
+use Rattle.line_parts.specs.Part.{stretchLength}
+use Rattle.line_parts.proofs.part.stretch_length.Statement.{statement}
+use Rattle.line_parts.proofs.part.stretch_length.Tie as tie
 
 point-requires : tie.Need-point-requires
 point-requires c κs = tt
