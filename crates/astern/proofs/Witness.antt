@@ -15,10 +15,10 @@ use Rattle.ids.proofs.ByteOrder.{clash}
 use Rattle.measure.specs.Answer.{given}
 use Rattle.measure.specs.Globe.{onGlobe, within}
 use Rattle.columns.specs.Number.{reachesAt, endsPastAt, beyond, outsideAt}
-use Rattle.columns.specs.Order.{bitOf, partsOf, cmpParts, cmpRows, outOfOrderAt}
 use Rattle.columns.specs.Real.{offGlobeAt}
-use Rattle.columns.specs.Rows.{some, counts, among}
-use Rattle.columns.specs.Text.{badByteAt, badText, badId, badIdAt}
+use Rattle.columns.specs.Rows.{some, counts, among, bitOf}
+use Rattle.column_ids.specs.Text.{badByteAt, badText, badId, badIdAt}
+use Rattle.column_order.specs.Order.{partsOf, cmpParts, cmpRows, outOfOrderAt}
 use Rattle.tables.specs.Pools.{Pools}
 use Rattle.tables.specs.Refuse.{chartBounds, refusalOf, failsOf, leastOf, joined}
 use Rattle.tables.specs.declared.lent.Tables.{Tables}

@@ -5,8 +5,8 @@ use mathlib.Core.Bool.{false}
 use lib.ListN.{drop, length}
 use Rattle.ids.specs.Pool.{idOf}
 use Rattle.ids.specs.Rows.{Ascending}
-use Rattle.columns.specs.declared.order.Key.the-variants.{Dated}
-use Rattle.columns.specs.declared.order.Key.the-variants.{Ids as KeyIds}
+use Rattle.column_order.specs.declared.order.Key.the-variants.{Dated}
+use Rattle.column_order.specs.declared.order.Key.the-variants.{Ids as KeyIds}
 use Rattle.tables.specs.Pools.{Pools}
 use Rattle.tables.specs.Refuse.{always}
 use Rattle.tables.specs.declared.bounds.Bounds.{Bounds}

@@ -1,5 +1,5 @@
 // The rules of calendars, ranges and exceptions.
-use columns::Key;
+use column_order::Key;
 use ids::Span;
 use tables::Bounds;
 use tables::Calendars;

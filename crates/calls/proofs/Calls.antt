@@ -6,7 +6,7 @@ use mathlib.Core.Bool.{Bool, true, false, cond}
 use mathlib.Core.List.{List, [], _∷_, map}
 use lib.ListN.{length, getD, length-map, List·getD-map}
 use Rattle.ids.specs.Pool.{cellOf, idOf}
-use Rattle.ids.specs.Texts.{isAt, orAt}
+use Rattle.ids.specs.First.{isAt, orAt}
 use Rattle.ids.specs.declared.lookup.Found.{Found}
 use Rattle.ids.specs.declared.lookup.Found.the-variants.{At, Nothing}
 use Rattle.ids.proofs.ByteOrder.{clash}

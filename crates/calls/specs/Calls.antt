@@ -6,7 +6,7 @@ use mathlib.Core.List.{List, map}
 use lib.IntN.{ℤ}
 use lib.ListN.{length}
 use Rattle.ids.specs.Pool.{cellOf, idOf}
-use Rattle.ids.specs.Texts.{isAt, orAt}
+use Rattle.ids.specs.First.{isAt, orAt}
 use Rattle.ids.specs.declared.lookup.Found.{Found}
 use Rattle.ids.specs.declared.lookup.Found.the-variants.{Nothing}
 use Rattle.refs.specs.Refs.{baseOf}

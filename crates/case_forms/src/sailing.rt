@@ -25,7 +25,7 @@ fn is_named(s: &[u8]) -> bool {
     if fields(s) < 3 {
         return false;
     }
-    !ids::begins(field(s, 2), b"(")
+    !texts::begins(field(s, 2), b"(")
 }
 
 // The field after the bracket that may stand next, or the field at fault.
@@ -57,7 +57,7 @@ fn bracket(
     let After::Field(i) = at else {
         return at;
     };
-    if !ids::same(field(s, i as usize), name) {
+    if !texts::same(field(s, i as usize), name) {
         return at;
     }
     let next = std::num::wrapping_add_u32(i, 1);

@@ -19,7 +19,7 @@ fn raw(s: &[u8], bytes: &mut [u8], words: &mut [u32], i: u32, row: u32) -> Why {
     if fields(s) != i as usize + 2 {
         return Why::Tokens;
     }
-    if !ids::same(field(s, i as usize), b"(raw") {
+    if !texts::same(field(s, i as usize), b"(raw") {
         return Why::Tokens;
     }
     let id = closed(field(s, i as usize + 1));
@@ -35,7 +35,7 @@ fn placed(s: &[u8], bytes: &mut [u8], words: &mut [u32], reals: &mut [f64], row:
     if fields(s) < 3 {
         return Why::Nothing;
     }
-    if ids::same(field(s, 2), b"(raw") {
+    if texts::same(field(s, 2), b"(raw") {
         return raw(s, bytes, words, 2, row);
     }
     put::byte(bytes, layout::STOP_POSITIONED, row, 1);
@@ -89,7 +89,7 @@ fn frequency(s: &[u8], bytes: &mut [u8], i: u32, row: u32) -> Why {
     if fields(s) != i as usize + 1 {
         return Why::Tokens;
     }
-    if !ids::same(field(s, i as usize), b"(frequency)") {
+    if !texts::same(field(s, i as usize), b"(frequency)") {
         return Why::Tokens;
     }
     put::byte(bytes, layout::TRIP_FREQUENCY, row, 1);
@@ -98,7 +98,7 @@ fn frequency(s: &[u8], bytes: &mut [u8], i: u32, row: u32) -> Why {
 
 // The shape of a static trip, if it has one, and what may follow.
 fn shaped(s: &[u8], bytes: &mut [u8], words: &mut [u32], row: u32) -> Why {
-    if !ids::same(field(s, 4), b"(shape") {
+    if !texts::same(field(s, 4), b"(shape") {
         return frequency(s, bytes, 4, row);
     }
     let Whole::Is(n) = case_tokens::number(closed(field(s, 5))) else {
@@ -156,7 +156,7 @@ fn measured(s: &[u8], bytes: &mut [u8], dists: &mut [f32], row: u32) -> Why {
     if fields(s) != 7 {
         return Why::Tokens;
     }
-    if !ids::same(field(s, 5), b"(dist") {
+    if !texts::same(field(s, 5), b"(dist") {
         return Why::Tokens;
     }
     let Whole::Is(bits) = case_tokens::single(closed(field(s, 6))) else {

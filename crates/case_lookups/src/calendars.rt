@@ -47,10 +47,10 @@ pub(crate) fn range(s: &[u8], bytes: &mut [u8], words: &mut [u32], row: u32) -> 
 
 // Whether an exception is `added` or `removed`.
 fn kind(s: &[u8], bytes: &mut [u8], row: u32) -> Why {
-    if ids::same(field(s, 4), b"added") {
+    if texts::same(field(s, 4), b"added") {
         return Why::Nothing;
     }
-    if !ids::same(field(s, 4), b"removed") {
+    if !texts::same(field(s, 4), b"removed") {
         return Why::Token(4);
     }
     put::byte(bytes, layout::EXCEPTION_REMOVED, row, 1);

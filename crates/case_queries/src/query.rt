@@ -5,7 +5,7 @@ use case_tokens::Whole;
 use case_tokens::field;
 use case_tokens::fields;
 use ids::Found;
-use ids::same;
+use texts::same;
 
 pub enum Query {
     Sin(f64),

@@ -1,7 +1,7 @@
 // The names of the forms, where the rows of each are counted, and how many may stand in a case.
 use case_tables::layout;
 use case_tables::limits;
-use ids::same;
+use texts::same;
 
 pub enum Form {
     Feed,

@@ -173,7 +173,7 @@ fn after(
         next.last = true;
         return next;
     }
-    if ids::same(ids::part(line, 0, n), end) {
+    if texts::same(ids::part(line, 0, n), end) {
         next.over = true;
         return next;
     }

@@ -1,6 +1,3 @@
--- `Scan`: how a loop over rows shows `some`. `Keys`: how rows stand by the parts of their key.
--- For callers, `Passed`: what is so of each row where a test is false; `Sorted`: rows that are not unsorted ascend.
+-- `Scan`: how a loop over rows shows `some`. For callers, `Passed`: what is so of each row where a test is false.
 pub mod Scan
-pub mod Keys
 pub mod Passed
-pub mod Sorted

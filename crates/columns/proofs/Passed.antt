@@ -1,12 +1,11 @@
 -- What is so of each row that counts where a test of its column is false. Assumes nothing.
-use Prim.Native.Nat.{ℕ, zero, suc, _<_, _≤_, _+_, min}
-use native.Mathlib.Omega.{arith}
+use Prim.Native.Nat.{ℕ, _<_, _≤_, _+_, min}
 use mathlib.Core.Path.{_≡_, refl, sym, subst}
 use mathlib.Core.Logic.{⊎-elim}
-use mathlib.Core.Bool.{Bool, true, false, _||_, _&&_, not}
+use mathlib.Core.Bool.{Bool, true, false, _||_, not}
 use mathlib.Core.List.{List}
-use borrow.Author.Tests.{ltb-false, leb-false, eqb-false, ne-eqb, not-false}
-use lib.Dec.{T, eqb}
+use borrow.Author.Tests.{ltb-false, leb-false, ne-eqb, not-false}
+use lib.Dec.{T}
 use lib.Ieee.{Float, nan}
 use lib.IntN.{ℤ, pos}
 use lib.ListN.{length, getD}
@@ -16,7 +15,6 @@ use Rattle.measure.specs.Globe.{onGlobe}
 use Rattle.columns.specs.Number.{reachesAt, endsPastAt, beyond, outsideAt}
 use Rattle.columns.specs.Real.{offGlobeAt, isFinite, notFiniteAt}
 use Rattle.columns.specs.Rows.{some, counts, among}
-use Rattle.columns.specs.Text.{badByteAt, badText, badId, idAt, badIdAt}
 use Rattle.columns.proofs.Scan.{hit}
 
 -- Where `some` is false the test fails of each.
@@ -33,17 +31,12 @@ unfolding counts
 flagged-counts true flags k h = refl
 flagged-counts false flags k h = simp (ne-eqb (getD flags k 0) 0 h)
 
-neither : (a b : Bool) → (a || b) ≡ false → (a ≡ false) × (b ≡ false)
+pub neither : (a b : Bool) → (a || b) ≡ false → (a ≡ false) × (b ≡ false)
 neither true b e = clash (cc)
 neither false b e = (refl, e)
 
 at-most : (a b : ℤ) → ltZ a b ≡ false → b ≤ℤ a
 at-most a b e = ltZ-no (subst (λ (t : Bool). T (not t)) (sym e) tt)
-
--- A text: each byte is printable.
-pub printable : (s : List ℕ) → badText s ≡ false → (k : ℕ) → k < length s → (32 ≤ getD s k 0) × (getD s k 0 ≤ 126)
-unfolding badText badByteAt
-printable s e k l = let h = neither _ _ (fails (badByteAt s) (length s) e k l) in (ltb-false _ _ (h .0), ltb-false _ _ (h .1))
 
 -- A column of which no row that counts is at fault.
 module _ (all : Bool) (flags : List ℕ) where
@@ -75,21 +68,3 @@ module _ (all : Bool) (flags : List ℕ) where
       (k : ℕ) → k < length s → counts all flags k ≡ true → isFinite (getD s k nan) ≡ true
   unfolding notFiniteAt
   is-finite s e k l c = not-false _ (no-fault (notFiniteAt s) _ e k l c)
-
-  module _ (bytes starts lens : List ℕ) (empty : Bool) (e : some (among all flags (badIdAt bytes starts lens empty)) (min (length starts) (length lens)) ≡ false) (k : ℕ) (l : k < min (length starts) (length lens)) (c : counts all flags k ≡ true) where
-    good : (badText (idAt bytes starts lens k) ≡ false) × ((eqb (length (idAt bytes starts lens k)) 0 && not empty) ≡ false)
-    unfolding badIdAt badId
-    good = neither _ _ (no-fault (badIdAt bytes starts lens empty) _ e k l c)
-
-    pub id-printable : (j : ℕ) → j < length (idAt bytes starts lens k) → (32 ≤ getD (idAt bytes starts lens k) j 0) × (getD (idAt bytes starts lens k) j 0 ≤ 126)
-    id-printable = printable (idAt bytes starts lens k) (good .0)
-
-    pub id-not-empty : empty ≡ false → 0 < length (idAt bytes starts lens k)
-    id-not-empty f = pos-of _ (eqb-false _ _ (left _ (simp f at (good .1)))) where
-      pos-of : (n : ℕ) → (n ≡ 0 → ⊥) → 0 < n
-      pos-of zero h = absurd (h refl)
-      pos-of (suc n) h = omega arith
-
-      left : (a : Bool) → (a && true) ≡ false → a ≡ false
-      left true e = e
-      left false e = refl

@@ -1,10 +1,11 @@
--- Some row of a column, and which rows count.
-use Prim.Native.Nat.{ℕ, zero, suc, _<_, _≤_}
+-- Some row of a column, which rows count, and what a column of flags has in a row.
+use Prim.Native.Nat.{ℕ, zero, suc, _<_, _≤_, _+_}
 use mathlib.Core.Path.{_≡_}
-use mathlib.Core.Bool.{Bool, false, _||_, _&&_, not}
+use mathlib.Core.Bool.{Bool, false, _||_, _&&_, not, cond}
 use mathlib.Core.List.{List}
 use lib.Dec.{eqb}
 use lib.ListN.{length, getD}
+use Rattle.ids.specs.declared.pool.Span.{Span}
 
 -- p holds of some k below n
 unfoldable pub some : (ℕ → Bool) → ℕ → Bool
@@ -24,3 +25,7 @@ pub record Read (all : Bool) (flags : List ℕ) (n r : ℕ) : Type 0 where
   pub within : r ≤ n
   pub flagged : all ≡ false → r ≤ length flags
   pub others : (k : ℕ) → r ≤ k → k < n → counts all flags k ≡ false
+
+-- row k of a column of flag bytes: zero or one
+unfoldable pub bitOf : List ℕ → Span → ℕ → ℕ
+bitOf bytes span k = cond (eqb (getD bytes (span .at + k) 0) 0) 0 1

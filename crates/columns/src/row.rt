@@ -1,9 +1,10 @@
-// Which rows of a column are read, and which of them count.
+// Which rows of a column are read, which of them count, and what a column of flags has in a row.
+use ids::Span;
 ghost use mathlib.Core.Bool.{false};
 ghost use mathlib.Core.Path.{_≡_};
 ghost use Prim.Native.Nat.{_<_, min};
 ghost use lib.ListN.{length};
-ghost use Rattle.columns.specs.Rows.{Read, counts};
+ghost use Rattle.columns.specs.Rows.{Read, bitOf, counts};
 
 // The rows that two columns both have.
 pub fn both(a: usize, b: usize) -> usize
@@ -34,4 +35,21 @@ pub fn counted(flags: &[u8], all: bool, k: usize) -> bool
         return true;
     }
     flags[k] != 0
+}
+
+// Row k of a column of flags, as zero or one.
+pub fn bit(bytes: &[u8], span: Span, k: usize) -> u32
+    ensures { λ r. ⌜ r ≡ bitOf (now (bytes .entry)) span k ⌝ }
+{
+    if bytes.len() <= k {
+        return 0;
+    }
+    let at = span.at as usize + k;
+    if bytes.len() <= at {
+        return 0;
+    }
+    if bytes[at] == 0 {
+        return 0;
+    }
+    1
 }

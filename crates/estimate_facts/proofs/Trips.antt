@@ -10,7 +10,7 @@ use lib.ListN.{drop, getD, length, length-take}
 use Rattle.ids.specs.Pool.{cellOf}
 use Rattle.ids.specs.declared.lookup.Found.the-variants.{At}
 use Rattle.ids.specs.declared.pool.Span.{Span}
-use Rattle.columns.specs.Order.{bitOf}
+use Rattle.columns.specs.Rows.{bitOf}
 use Rattle.tables.specs.Pools.{Pools}
 use Rattle.tables.specs.Refuse.{always, whereSet, chartBounds, refusalOf}
 use Rattle.tables.specs.declared.lent.Tables.{Tables}

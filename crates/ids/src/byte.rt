@@ -1,6 +1,6 @@
 // Single bytes of ASCII text. Bytes above 127 are no letters and keep their value.
 ghost use mathlib.Core.Path.{_≡_};
-ghost use Rattle.ids.specs.Bytes.{isDigit, isAlnum, isOf, upperOf};
+ghost use Rattle.ids.specs.Bytes.{isDigit, isAlnum, isOf, upperOf, foldOf};
 
 // A kind of bytes, of which a text has a run.
 pub enum Kind {
@@ -56,4 +56,14 @@ pub fn of_kind(kind: Kind, b: u8) -> bool
         Kind::Digit => digit(b),
         Kind::Alnum => alnum(b),
     }
+}
+
+// A byte as it is compared and written: in upper case with `fold`, else as it is.
+pub fn letter(fold: bool, b: u8) -> u8
+    ensures { λ r. ⌜ r ≡ foldOf fold b ⌝ }
+{
+    if fold {
+        return upper(b);
+    }
+    b
 }

@@ -1,7 +1,6 @@
 // The order of texts: byte by byte, and a text before those that extend it. Ids ascend in it.
-use crate::fold;
 ghost use mathlib.Core.Path.{_≡_};
-ghost use Rattle.ids.specs.Cmp.{cmp, equal};
+ghost use Rattle.ids.specs.Cmp.{cmp};
 
 // How the first of two texts stands to the second.
 pub enum Order {
@@ -34,11 +33,4 @@ pub fn compare(a: &[u8], b: &[u8]) -> Order
         return Order::Less;
     }
     Order::Same
-}
-
-// Whether a and b are equal. Texts of different lengths are told apart at once.
-pub fn same(a: &[u8], b: &[u8]) -> bool
-    ensures { λ r. ⌜ r ≡ equal (now (a .entry)) (now (b .entry)) ⌝ }
-{
-    fold::alike(false, a, b)
 }

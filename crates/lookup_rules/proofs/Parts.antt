@@ -7,7 +7,7 @@ use mathlib.Core.Bool.{false}
 use lib.ListN.{drop, length, length-take}
 use Rattle.ids.specs.Pool.{idOf}
 use Rattle.ids.specs.Rows.{Ascending, GoodIds}
-use Rattle.columns.specs.declared.order.Key.the-variants.{IdWord}
+use Rattle.column_order.specs.declared.order.Key.the-variants.{IdWord}
 use Rattle.tables.specs.Pools.{Pools}
 use Rattle.tables.specs.Refuse.{always}
 use Rattle.tables.specs.declared.bounds.Bounds.{Bounds}

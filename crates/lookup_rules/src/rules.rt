@@ -1,5 +1,5 @@
 // The rules of ids with rows, aliases and lines.
-use columns::Key;
+use column_order::Key;
 use ids::Span;
 use tables::Aliases;
 use tables::Bounds;

@@ -3,12 +3,12 @@ ghost use Prim.Native.Nat.{_-_, min};
 ghost use mathlib.Core.Path.{_≡_};
 ghost use lib.ListN.{length};
 ghost use Rattle.columns.specs.Number.{endsPastAt, reachesAt};
-ghost use Rattle.columns.specs.Order.{outOfOrderAt};
 ghost use Rattle.columns.specs.Real.{notFiniteAt, offGlobeAt};
 ghost use Rattle.columns.specs.Rows.{among, some};
-ghost use Rattle.columns.specs.Text.{badIdAt};
-ghost use Rattle.columns.specs.declared.order.Key.the-variants.{Id};
-use columns::Key;
+ghost use Rattle.column_ids.specs.Text.{badIdAt};
+ghost use Rattle.column_order.specs.Order.{outOfOrderAt};
+ghost use Rattle.column_order.specs.declared.order.Key.the-variants.{Id};
+use column_order::Key;
 use ids::IdColumn;
 use ids::Span;
 
@@ -57,7 +57,7 @@ pub extern "C" fn zebumorn_bad_ids(
 ) -> bool
     ensures { λ r. ⌜ r ≡ some (among all (now (flags .entry)) (badIdAt (now (bytes .entry)) (now (starts .entry)) (now (lens .entry)) empty)) (min (length (now (starts .entry))) (length (now (lens .entry)))) ⌝ }
 {
-    columns::bad_ids(bytes, starts, lens, flags, all, empty)
+    column_ids::bad_ids(bytes, starts, lens, flags, all, empty)
 }
 
 // The ids of n rows, whose starts stand at 0 in the words and their lengths after them.
@@ -68,5 +68,5 @@ pub extern "C" fn zebumorn_ids_unsorted(bytes: &[u8], words: &[u32], n: u32) -> 
     let starts = Span { at: 0, n };
     let lens = Span { at: n, n };
     let ids = IdColumn { starts, lens };
-    columns::unsorted(bytes, words, Key::Id(ids), n as usize)
+    column_order::unsorted(bytes, words, Key::Id(ids), n as usize)
 }

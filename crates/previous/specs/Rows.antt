@@ -7,8 +7,8 @@ use lib.ListN.{length}
 use Rattle.ids.specs.Cmp.{equal}
 use Rattle.ids.specs.First.{first, last}
 use Rattle.ids.specs.Pool.{cellOf, idOf}
-use Rattle.ids.specs.Texts.{holds}
 use Rattle.ids.specs.declared.lookup.Found.{Found}
+use Rattle.texts.specs.Texts.{holds}
 use Rattle.tables.specs.declared.lent.StopTimes.{StopTimes}
 use Rattle.tables.specs.declared.lent.Stops.{Stops}
 use Rattle.trip_samples.specs.Course.{isFlagged, rowAfter}

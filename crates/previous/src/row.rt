@@ -1,10 +1,10 @@
 // Tests of a row of the stop times: whether its stop is positioned, whether it is the call that is sailed to, and its sequence.
 use ids::cell;
-use ids::contains;
 use ids::id;
-use ids::same;
 use tables::StopTimes;
 use tables::Stops;
+use texts::contains;
+use texts::same;
 use trip_samples::flagged;
 ghost use mathlib.Core.Path.{_≡_};
 ghost use Rattle.previous.specs.Rows.{isPlaced, isNamed, isTarget, placedTarget, isFrom, hasSequence};

@@ -2,7 +2,8 @@
 use Prim.Native.Nat.{ℕ, _+_}
 use mathlib.Core.List.{List}
 use lib.ListN.{length, drop}
-use Rattle.ids.specs.Texts.{firstByte, orAt}
+use Rattle.ids.specs.First.{orAt}
+use Rattle.texts.specs.Texts.{firstByte}
 
 -- where the line that begins at `at` ends: at the first newline from there on, or where the text does
 unfoldable pub lineEnd : List ℕ → ℕ → ℕ

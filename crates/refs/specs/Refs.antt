@@ -6,7 +6,7 @@ use lib.Dec.{eqb}
 use lib.ListN.{length, getD, take, drop}
 use Rattle.ids.specs.declared.byte.Kind.the-variants.{Byte}
 use Rattle.ids.specs.Bytes.{isOf}
-use Rattle.ids.specs.Texts.{prefixOf, suffixOf, equalIgnoringCase, firstByte, lastByte, firstPlace, runOf, trimmedOf, trimmedText}
+use Rattle.texts.specs.Texts.{prefixOf, suffixOf, equalIgnoringCase, firstByte, lastByte, firstPlace, runOf, trimmedOf, trimmedText}
 use Rattle.parts.specs.Parts.{upTo, past, afterLast, ifLong, orText}
 use Rattle.refs.specs.Words.{colons, loc, locWord, lowFeed, highFeed, serviceJourney, vehicleJourney}
 

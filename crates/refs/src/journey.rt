@@ -14,15 +14,15 @@ ghost use Rattle.refs.specs.Refs.{afterColons, withoutLocPart, isKind, a
 fn after_colons<'a>(s: &'a [u8]) -> &'a [u8]
     ensures { λ r. ⌜ now r ≡ afterColons (now (s .entry)) ⌝ }
 {
-    without_locs(without_colons(past_place(s, ids::first_place(s, b"::"), 2)))
+    without_locs(without_colons(past_place(s, texts::first_place(s, b"::"), 2)))
 }
 
 // Less the last of its parts between colons, where that is "LOC" in any case.
 fn without_loc_part<'a>(s: &'a [u8]) -> &'a [u8]
     ensures { λ r. ⌜ now r ≡ withoutLocPart (now (s .entry)) ⌝ }
 {
-    if ids::equal_ignoring_case(after_last(s, b':'), b"LOC") {
-        return before(s, ids::last_of(s, b':'));
+    if texts::equal_ignoring_case(after_last(s, b':'), b"LOC") {
+        return before(s, texts::last_of(s, b':'));
     }
     s
 }
@@ -30,17 +30,17 @@ fn without_loc_part<'a>(s: &'a [u8]) -> &'a [u8]
 fn is_kind(s: &[u8]) -> bool
     ensures { λ r. ⌜ r ≡ isKind (now (s .entry)) ⌝ }
 {
-    if ids::equal_ignoring_case(s, b"ServiceJourney") {
+    if texts::equal_ignoring_case(s, b"ServiceJourney") {
         return true;
     }
-    ids::equal_ignoring_case(s, b"VehicleJourney")
+    texts::equal_ignoring_case(s, b"VehicleJourney")
 }
 
 // What stands after the kind, with which s begins; none where that is no kind.
 fn after_kind<'a>(s: &'a [u8]) -> &'a [u8]
     ensures { λ r. ⌜ now r ≡ afterKind (now (s .entry)) ⌝ }
 {
-    let colon = ids::first_of(s, b':');
+    let colon = texts::first_of(s, b':');
     if is_kind(before(s, colon)) {
         return without_loc_part(past_place(s, colon, 1));
     }
@@ -51,7 +51,7 @@ fn after_kind<'a>(s: &'a [u8]) -> &'a [u8]
 fn after_parts<'a>(s: &'a [u8]) -> &'a [u8]
     ensures { λ r. ⌜ now r ≡ afterParts (now (s .entry)) ⌝ }
 {
-    after_kind(past_place(s, ids::first_of(s, b':'), 1))
+    after_kind(past_place(s, texts::first_of(s, b':'), 1))
 }
 
 // The journey id of a ref.
@@ -69,8 +69,8 @@ pub fn journey_id<'a>(s: &'a [u8]) -> &'a [u8]
 fn bare_text<'a>(s: &'a [u8]) -> &'a [u8]
     ensures { λ r. ⌜ now r ≡ bare (now (s .entry)) ⌝ }
 {
-    let t = from(s, ids::run(s, Kind::Byte(b' ')));
-    first(t, ids::trimmed(t, b' '))
+    let t = from(s, texts::run(s, Kind::Byte(b' ')));
+    first(t, texts::trimmed(t, b' '))
 }
 
 // 36 bytes with four dashes at the places of a UUID.

@@ -11,7 +11,7 @@ ghost use Rattle.refs.specs.Refs.{baseOf, rawOf, withoutLoc, withoutColo
 pub fn base<'a>(key: &'a [u8]) -> &'a [u8]
     ensures { λ r. ⌜ now r ≡ baseOf (now (key .entry)) ⌝ }
 {
-    match ids::last_of(key, b'@') {
+    match texts::last_of(key, b'@') {
         Found::At(k) => first(key, k),
         Found::Nothing => key,
     }
@@ -21,10 +21,10 @@ pub fn base<'a>(key: &'a [u8]) -> &'a [u8]
 pub fn raw<'a>(s: &'a [u8]) -> &'a [u8]
     ensures { λ r. ⌜ now r ≡ rawOf (now (s .entry)) ⌝ }
 {
-    if ids::begins(s, b"idfm:") {
+    if texts::begins(s, b"idfm:") {
         return from(s, 5);
     }
-    if ids::begins(s, b"IDFM:") {
+    if texts::begins(s, b"IDFM:") {
         return from(s, 5);
     }
     s
@@ -34,7 +34,7 @@ pub fn raw<'a>(s: &'a [u8]) -> &'a [u8]
 pub fn without_loc<'a>(s: &'a [u8]) -> &'a [u8]
     ensures { λ r. ⌜ now r ≡ withoutLoc (now (s .entry)) ⌝ }
 {
-    if ids::ends_with(s, b":LOC") {
+    if texts::ends_with(s, b":LOC") {
         return first(s, s.len() - 4);
     }
     s
@@ -44,14 +44,14 @@ pub fn without_loc<'a>(s: &'a [u8]) -> &'a [u8]
 pub fn without_colons<'a>(s: &'a [u8]) -> &'a [u8]
     ensures { λ r. ⌜ now r ≡ withoutColons (now (s .entry)) ⌝ }
 {
-    first(s, ids::trimmed(s, b':'))
+    first(s, texts::trimmed(s, b':'))
 }
 
 // Less every ":LOC" at the end.
 pub fn without_locs<'a>(s: &'a [u8]) -> &'a [u8]
     ensures { λ r. ⌜ now r ≡ withoutLocs (now (s .entry)) ⌝ }
 {
-    first(s, ids::trimmed_text(s, b":LOC"))
+    first(s, texts::trimmed_text(s, b":LOC"))
 }
 
 // The tail of a base key by which a trip id may be known.

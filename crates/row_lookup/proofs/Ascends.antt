@@ -14,9 +14,9 @@ use Rattle.ids.specs.declared.pool.Span.{Span}
 use Rattle.ids.proofs.ByteOrder.{clash}
 use Rattle.days.specs.Days.{isDate, ordinal}
 use Rattle.days.proofs.Ascending.{ordinal-order}
-use Rattle.columns.specs.Order.{cmpParts, cmpRows, orNext, partsOf}
-use Rattle.columns.specs.declared.order.Key.{Key}
-use Rattle.columns.specs.declared.order.Key.the-variants.{IdWord, Ids, Dated}
+use Rattle.column_order.specs.Order.{cmpParts, cmpRows, orNext, partsOf}
+use Rattle.column_order.specs.declared.order.Key.{Key}
+use Rattle.column_order.specs.declared.order.Key.the-variants.{IdWord, Ids, Dated}
 use Rattle.row_lookup.specs.Rows.{partsAt, InOrder, Ascend}
 use Rattle.row_lookup.specs.declared.rows.Rows.the-variants.{Ranges, Exceptions, Lines}
 

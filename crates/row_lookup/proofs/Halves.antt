@@ -9,16 +9,15 @@ use mathlib.Core.List.{List, [], _∷_}
 use borrow.Author.Tests.{ltb-true, ltb-false}
 use lib.Dec.{ltb}
 use Rattle.ids.specs.Cmp.{cmp}
-use Rattle.ids.specs.First.{first}
-use Rattle.ids.specs.Texts.{orAt}
+use Rattle.ids.specs.First.{first, orAt}
 use Rattle.ids.specs.declared.lookup.Found.{Found}
 use Rattle.ids.specs.declared.lookup.Found.the-variants.{At, Nothing}
 use Rattle.ids.specs.declared.order.Order.{Order}
 use Rattle.ids.specs.declared.order.Order.the-variants.{Less, Same, More}
 use Rattle.ids.proofs.ByteOrder.{clash, same-equal, split}
 use Rattle.ids.proofs.Search.{first-before, first-hit, first-miss, first-found, first-none}
-use Rattle.columns.specs.Order.{cmpParts, orNext, notLess}
-use Rattle.columns.proofs.Sorted.{parts-trans}
+use Rattle.column_order.specs.Order.{cmpParts, orNext, notLess}
+use Rattle.column_order.proofs.Sorted.{parts-trans}
 use Rattle.row_lookup.specs.Rows.{isSame, placeOf, rowIs}
 
 -- keys that stand the same are the same

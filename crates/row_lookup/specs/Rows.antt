@@ -3,13 +3,13 @@ use Prim.Native.Nat.{ℕ, _<_}
 use mathlib.Core.Path.{_≡_}
 use mathlib.Core.Bool.{Bool, true, false}
 use mathlib.Core.List.{List, [], _∷_}
-use Rattle.ids.specs.First.{first}
+use Rattle.ids.specs.First.{first, orAt}
 use Rattle.ids.specs.Pool.{cellOf, idOf}
-use Rattle.ids.specs.Texts.{orAt}
 use Rattle.ids.specs.declared.order.Order.{Order}
 use Rattle.ids.specs.declared.order.Order.the-variants.{Less, Same, More}
 use Rattle.days.specs.Days.{ordinal}
-use Rattle.columns.specs.Order.{bitOf, cmpParts, notLess}
+use Rattle.columns.specs.Rows.{bitOf}
+use Rattle.column_order.specs.Order.{cmpParts, notLess}
 use Rattle.row_lookup.specs.declared.rows.Rows.{Rows}
 use Rattle.row_lookup.specs.declared.rows.Rows.the-variants.{Ranges, Exceptions, Lines}
 

@@ -1,6 +1,6 @@
 // Rows of a table that ascend, found by halves.
+use column_order::numbers;
 use columns::bit;
-use columns::numbers;
 use ids::Found;
 use ids::IdColumn;
 use ids::Order;

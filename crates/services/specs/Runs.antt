@@ -5,10 +5,9 @@ use mathlib.Core.Bool.{Bool, false, not, _&&_, _||_}
 use mathlib.Core.List.{List}
 use lib.Dec.{eqb, leb}
 use lib.ListN.{getD}
-use Rattle.ids.specs.First.{first}
+use Rattle.ids.specs.First.{first, isAt}
 use Rattle.ids.specs.Pool.{cellOf, idOf}
 use Rattle.ids.specs.Rows.{rowOf, Ascending}
-use Rattle.ids.specs.Texts.{isAt}
 use Rattle.ids.specs.declared.lookup.Found.{Found}
 use Rattle.ids.specs.declared.lookup.Found.the-variants.{At, Nothing}
 use Rattle.days.specs.Days.{ordinal}

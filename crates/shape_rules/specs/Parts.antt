@@ -3,7 +3,7 @@ use Prim.Native.Nat.{ℕ, _+_}
 use mathlib.Core.Bool.{false}
 use mathlib.Core.List.{List, [], _∷_, _++_}
 use Rattle.ids.specs.declared.pool.Span.{Span}
-use Rattle.columns.specs.declared.order.Key.the-variants.{Id}
+use Rattle.column_order.specs.declared.order.Key.the-variants.{Id}
 use Rattle.tables.specs.Refuse.{Cause, always, cause, idCauses}
 use Rattle.tables.specs.declared.bounds.Bounds.{Bounds}
 use Rattle.tables.specs.declared.cause.Pool.the-variants.{Words, Reals, Dists}

@@ -1,5 +1,5 @@
 // The rules of shapes, points and measures.
-use columns::Key;
+use column_order::Key;
 use ids::Span;
 use tables::Bounds;
 use tables::Mark;

@@ -4,7 +4,7 @@ use lib.Ieee.{ofInt, sub, div, lt, le}
 use Rattle.ids.specs.Bytes.{upperOf}
 use Rattle.ids.specs.Cmp.{equal}
 use Rattle.ids.specs.First.{first, last}
-use Rattle.ids.specs.Texts.{firstByte, firstPlace, lastByte, keptOf, prefixOf, runOf, suffixOf, trimmedTimes}
+use Rattle.texts.specs.Texts.{firstByte, firstPlace, lastByte, keptOf, prefixOf, runOf, suffixOf, trimmedTimes}
 use Rattle.days.specs.Days.{leap, yearDays, monthDays, daysBeforeMonth, daysBeforeYear, isDate, ordinal, dayOf, weekdayOf}
 use Rattle.days.specs.Read.{readDateOf}
 use Rattle.columns.specs.Rows.{some}

@@ -2,7 +2,7 @@
 use Prim.Native.Nat.{ℕ}
 use mathlib.Core.List.{List, [], _∷_}
 use lib.ListN.{take, drop}
-use Rattle.ids.specs.Texts.{firstPlace, digitRun, digitsAt}
+use Rattle.texts.specs.Texts.{firstPlace, digitRun, digitsAt}
 use Rattle.parts.specs.Parts.{past, ifLong, orText}
 
 -- :Q:

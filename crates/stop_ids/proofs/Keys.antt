@@ -6,9 +6,9 @@ use mathlib.Core.List.{List, [], _∷_, _++_, append-assoc}
 use lib.Dec.{eqb}
 use lib.ListN.{length}
 use Rattle.ids.specs.First.{orElse}
-use Rattle.ids.specs.Texts.{holds}
 use Rattle.ids.specs.declared.lookup.Found.{Found}
 use Rattle.ids.specs.declared.lookup.Found.the-variants.{Nothing}
+use Rattle.texts.specs.Texts.{holds}
 use Rattle.stop_digits.specs.Stops.{stopDigitsOf}
 use Rattle.refs.specs.Words.{lowFeed, highFeed}
 use Rattle.trip_ids.proofs.Firsts.{or-nothing, or-or}

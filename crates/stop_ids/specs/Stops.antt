@@ -8,10 +8,10 @@ use lib.ListN.{length}
 use Rattle.ids.specs.First.{first, orElse}
 use Rattle.ids.specs.Pool.{cellOf, idOf}
 use Rattle.ids.specs.Rows.{rowOf, GoodIds}
-use Rattle.ids.specs.Texts.{holds}
 use Rattle.ids.specs.declared.lookup.Found.{Found}
 use Rattle.ids.specs.declared.lookup.Found.the-variants.{At, Nothing}
-use Rattle.columns.specs.Order.{bitOf}
+use Rattle.texts.specs.Texts.{holds}
+use Rattle.columns.specs.Rows.{bitOf}
 use Rattle.stop_digits.specs.Stops.{stopDigitsOf}
 use Rattle.refs.specs.Words.{lowFeed, highFeed}
 use Rattle.tables.specs.declared.lent.Stops.{Stops}

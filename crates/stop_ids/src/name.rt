@@ -29,7 +29,7 @@ fn or_stop(
         Found::At(k) => return Found::At(k),
         Found::Nothing => {}
     }
-    match ids::find_joined(bytes, words, id, b"", a, b, c) {
+    match keys::find_joined(bytes, words, id, b"", a, b, c) {
         Found::At(k) => if_positioned(bytes, stops, ids::cell(words, row, k) as usize),
         Found::Nothing => Found::Nothing,
     }
@@ -97,12 +97,12 @@ pub fn named_stop(bytes: &[u8], words: &[u32], l: Lookup, feed: &[u8], s: &[u8])
     ensures { λ r. ⌜ r ≡ namedStop (now (bytes .entry)) (now (words .entry)) l (now (feed .entry)) (now (s .entry)) ⌝ }
 {
     let found = or_text(bytes, words, l, Found::Nothing, feed, s);
-    if ids::contains(s, b":") {
+    if texts::contains(s, b":") {
         return found;
     }
     let mut buf = [0u8; 193];
-    let i = ids::put(&mut buf, 0, feed);
-    let j = ids::put(&mut buf, i, b":");
-    let n = ids::put(&mut buf, j, s);
+    let i = keys::put(&mut buf, 0, feed);
+    let j = keys::put(&mut buf, i, b":");
+    let n = keys::put(&mut buf, j, s);
     or_text(bytes, words, l, found, feed, &buf[..n])
 }

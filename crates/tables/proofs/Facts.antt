@@ -18,13 +18,14 @@ use Rattle.ids.specs.declared.pool.IdColumn.{IdColumn}
 use Rattle.ids.specs.declared.pool.Span.{Span}
 use Rattle.ids.proofs.ByteOrder.{clash}
 use Rattle.measure.specs.Globe.{onGlobe}
-use Rattle.columns.specs.Order.{cmpRows}
 use Rattle.columns.specs.Real.{isFinite}
 use Rattle.columns.specs.Rows.{counts}
-use Rattle.columns.specs.declared.order.Key.{Key}
-use Rattle.columns.specs.declared.order.Key.the-variants.{Word, Id}
-use Rattle.columns.proofs.Passed.{fails, below-bound, ends-within, in-range, on-globe, is-finite, id-printable, id-not-empty}
-use Rattle.columns.proofs.Sorted.{rows-ascend, ids-ascend, numbers-ascend}
+use Rattle.columns.proofs.Passed.{fails, below-bound, ends-within, in-range, on-globe, is-finite}
+use Rattle.column_ids.proofs.Passed.{id-printable, id-not-empty}
+use Rattle.column_order.specs.Order.{cmpRows}
+use Rattle.column_order.specs.declared.order.Key.{Key}
+use Rattle.column_order.specs.declared.order.Key.the-variants.{Word, Id}
+use Rattle.column_order.proofs.Sorted.{rows-ascend, ids-ascend, numbers-ascend}
 use Rattle.tables.specs.Pools.{Pools, partOf, flagsOf, poolLength}
 use Rattle.tables.specs.Refuse.{Cause, failsOf, illSized, noDateAt, nanAt, idCauses}
 use Rattle.tables.specs.declared.cause.Mark.{Mark}

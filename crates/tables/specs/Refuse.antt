@@ -12,8 +12,8 @@ use Rattle.ids.specs.declared.pool.Span.{Span}
 use Rattle.columns.specs.Rows.{some, among}
 use Rattle.columns.specs.Number.{reachesAt, endsPastAt, outsideAt}
 use Rattle.columns.specs.Real.{offGlobeAt, notFiniteAt}
-use Rattle.columns.specs.Text.{badIdAt}
-use Rattle.columns.specs.Order.{outOfOrderAt}
+use Rattle.column_ids.specs.Text.{badIdAt}
+use Rattle.column_order.specs.Order.{outOfOrderAt}
 use Rattle.tables.specs.Pools.{Pools, partOf, flagsOf, poolLength}
 use Rattle.tables.specs.declared.bounds.Bounds.{Bounds}
 use Rattle.tables.specs.declared.cause.Mark.{Mark}

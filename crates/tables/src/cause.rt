@@ -7,7 +7,7 @@ use crate::pools::dists_of;
 use crate::pools::reals_of;
 use crate::pools::times_of;
 use crate::pools::words_of;
-use columns::Key;
+use column_order::Key;
 use ids::IdColumn;
 use ids::Span;
 ghost use mathlib.Core.Path.{_≡_};
@@ -146,7 +146,7 @@ pub fn fails(
                 m.all,
             )
         }
-        Test::Unsorted(key, n) => columns::unsorted(bytes, words, key, n as usize),
+        Test::Unsorted(key, n) => column_order::unsorted(bytes, words, key, n as usize),
         Test::IdsPast(ids, m) => {
             let starts = ids.starts;
             let lens = ids.lens;
@@ -183,7 +183,7 @@ pub fn fails(
             let starts = ids.starts;
             let lens = ids.lens;
             let flags = m.flags;
-            columns::bad_ids(
+            column_ids::bad_ids(
                 bytes,
                 words_of(words, starts),
                 words_of(words, lens),

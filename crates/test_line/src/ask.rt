@@ -5,7 +5,7 @@ use crate::read::point;
 use crate::read::single;
 use crate::tell;
 use calibration::Sample;
-use ids::begins;
+use texts::begins;
 
 pub(crate) fn answer(lat: &[f64], lon: &[f64], words: &[u8]) {
     if begins(words, b"length ") {

@@ -60,18 +60,18 @@ fn new_trip(n: usize) -> Asked {
 // Reads a line of the text.
 fn step(lat: &mut [f64], lon: &mut [f64], asked: Asked, words: &[u8]) -> Asked {
     let n = asked.n;
-    if ids::begins(words, b"line") {
+    if texts::begins(words, b"line") {
         return new_line();
     }
-    if ids::begins(words, b"vertex ") {
+    if texts::begins(words, b"vertex ") {
         put(lat, n, read::double(words, 7));
         put(lon, n, read::double(words, 24));
         return new_trip(std::num::wrapping_add_usize(n, 1));
     }
-    if ids::begins(words, b"trip") {
+    if texts::begins(words, b"trip") {
         return new_trip(n);
     }
-    if ids::begins(words, b"stop") {
+    if texts::begins(words, b"stop") {
         return stopped(first(lat, n), first(lon, n), asked, words);
     }
     ask::answer(first(lat, n), first(lon, n), words);

@@ -13,8 +13,7 @@ use Rattle.ids.proofs.ByteOrder.{clash}
 use Rattle.days.specs.Days.{leap, ordinal}
 use Rattle.days.proofs.Months.{months-bound}
 use Rattle.days.proofs.Years.{years-bound}
-use Rattle.columns.specs.Order.{bitOf}
-use Rattle.columns.specs.Rows.{counts}
+use Rattle.columns.specs.Rows.{bitOf, counts}
 use Rattle.tables.specs.Pools.{Pools, partOf}
 use Rattle.tables.specs.Refuse.{always, whereSet, chartBounds, refusalOf}
 use Rattle.tables.specs.declared.lent.Journey.{Journey}

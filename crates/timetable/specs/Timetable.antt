@@ -9,7 +9,7 @@ use Rattle.ids.specs.Pool.{cellOf, idOf}
 use Rattle.ids.specs.declared.lookup.Found.{Found}
 use Rattle.ids.specs.declared.pool.Span.{Span}
 use Rattle.days.specs.Days.{ordinal}
-use Rattle.columns.specs.Order.{bitOf}
+use Rattle.columns.specs.Rows.{bitOf}
 use Rattle.tables.specs.declared.lent.Journey.{Journey}
 use Rattle.tables.specs.declared.lent.Service.{Service}
 use Rattle.tables.specs.declared.lent.Tables.{Tables}

@@ -6,7 +6,7 @@ use lib.Dec.{leb, eqb}
 use lib.ListN.{length, getD, take, drop}
 use Rattle.ids.specs.Bytes.{isAlnum, upperOf}
 use Rattle.ids.specs.First.{first}
-use Rattle.ids.specs.Texts.{firstPlaceIgnoringCase, alnumRun, digitRun}
+use Rattle.texts.specs.Texts.{firstPlaceIgnoringCase, alnumRun, digitRun}
 use Rattle.parts.specs.Parts.{past, afterLast, ifLong, orText}
 use Rattle.refs.specs.Refs.{journeyIdOf}
 

@@ -15,14 +15,14 @@ ghost use Rattle.tokens.specs.Tokens.{word, lineWord, isCode, beginsWord
 fn word_of<'a>(s: &'a [u8]) -> &'a [u8]
     ensures { λ r. ⌜ now r ≡ word (now (s .entry)) ⌝ }
 {
-    first(s, ids::alnum_run(s))
+    first(s, texts::alnum_run(s))
 }
 
 // Those after the first "LINE::", in any case; four at least.
 fn line_word<'a>(s: &'a [u8]) -> &'a [u8]
     ensures { λ r. ⌜ now r ≡ lineWord (now (s .entry)) ⌝ }
 {
-    let place = ids::first_place_ignoring_case(s, b"LINE::");
+    let place = texts::first_place_ignoring_case(s, b"LINE::");
     if_long(word_of(past_place(s, place, 6)), 4)
 }
 
@@ -37,7 +37,7 @@ fn is_code(w: &[u8]) -> bool
         return false;
     }
     let rest = from(w, 1);
-    ids::digit_run(rest) == rest.len()
+    texts::digit_run(rest) == rest.len()
 }
 
 // No letter or digit stands before k.

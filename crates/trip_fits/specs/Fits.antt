@@ -5,7 +5,7 @@ use mathlib.Core.List.{List}
 use lib.Dec.{eqb, ltb, leb}
 use lib.IntN.{ℤ, pos, _-ℤ_, natAbs}
 use Rattle.ids.specs.Pool.{cellOf, idOf}
-use Rattle.columns.specs.Order.{bitOf}
+use Rattle.columns.specs.Rows.{bitOf}
 use Rattle.services.specs.Runs.{runsOf}
 use Rattle.trip_fits.specs.declared.fit.Count.{Count}
 use Rattle.trip_fits.specs.declared.fit.Fit.{Fit}

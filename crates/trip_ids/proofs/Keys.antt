@@ -4,9 +4,9 @@ use mathlib.Core.Path.{_≡_, refl, ap, sym, _∙_}
 use mathlib.Core.Bool.{true, false}
 use mathlib.Core.List.{List, [], _∷_, _++_}
 use Rattle.ids.specs.First.{orElse}
-use Rattle.ids.specs.Texts.{prefixOf}
 use Rattle.ids.specs.declared.lookup.Found.{Found}
 use Rattle.ids.specs.declared.lookup.Found.the-variants.{Nothing}
+use Rattle.texts.specs.Texts.{prefixOf}
 use Rattle.refs.specs.Refs.{rawOf, withoutLoc, journeyIdOf, isUuid}
 use Rattle.refs.specs.Words.{loc, localMark}
 use Rattle.tables.specs.declared.lent.Aliases.{Aliases}

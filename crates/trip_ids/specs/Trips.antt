@@ -5,10 +5,10 @@ use mathlib.Core.List.{List, [], _∷_, _++_}
 use Rattle.ids.specs.First.{orElse}
 use Rattle.ids.specs.Pool.{cellOf, idOf}
 use Rattle.ids.specs.Rows.{rowOf, GoodIds}
-use Rattle.ids.specs.Texts.{prefixOf, firstByte}
 use Rattle.ids.specs.declared.lookup.Found.{Found}
 use Rattle.ids.specs.declared.lookup.Found.the-variants.{At, Nothing}
 use Rattle.ids.specs.declared.pool.Span.{Span}
+use Rattle.texts.specs.Texts.{prefixOf, firstByte}
 use Rattle.parts.specs.Parts.{upTo}
 use Rattle.refs.specs.Refs.{rawOf, withoutLoc, journeyIdOf, isUuid}
 use Rattle.refs.specs.Words.{loc, localMark}

@@ -28,7 +28,7 @@ fn or_alias(
         Found::At(k) => return Found::At(k),
         Found::Nothing => {}
     }
-    match ids::find_joined(bytes, words, id, b"", a, b, c) {
+    match keys::find_joined(bytes, words, id, b"", a, b, c) {
         Found::At(k) => by_key(bytes, words, tripkeys, ids::id(bytes, words, trip, k)),
         Found::Nothing => Found::Nothing,
     }
@@ -93,7 +93,7 @@ fn or_local(
     requires { ⌜ Known (now bytes) (now words) tripkeys aliases ⌝ }
     ensures { λ r. ⌜ r ≡ orElse found (firstTrip (now (bytes .entry)) (now (words .entry)) tripkeys aliases (localKeys (now (j .entry)))) ⌝ }
 {
-    if ids::begins(j, b"local-") {
+    if texts::begins(j, b"local-") {
         let first = or_alias(
             bytes,
             words,

@@ -11,7 +11,7 @@ ghost use Rattle.trip_ids.specs.Trips.{feedOf, builtOf};
 fn feed<'a>(base: &'a [u8]) -> &'a [u8]
     ensures { λ r. ⌜ now r ≡ feedOf (now (base .entry)) ⌝ }
 {
-    match ids::first_of(base, b':') {
+    match texts::first_of(base, b':') {
         Found::At(k) => ids::part(base, 0, k),
         Found::Nothing => base,
     }
@@ -29,7 +29,7 @@ pub fn built(bytes: &[u8], words: &[u32], tripkeys: IdRows, base: &[u8]) -> Foun
         return trip_at(
             words,
             row,
-            ids::find_joined(bytes, words, id, b"", feed(base), b":IDFM:TN:SNCF:", j),
+            keys::find_joined(bytes, words, id, b"", feed(base), b":IDFM:TN:SNCF:", j),
         );
     }
     Found::Nothing

@@ -7,7 +7,7 @@ use lib.Ieee.{Float, nan}
 use lib.ListN.{getD}
 use Rattle.ids.specs.Pool.{cellOf}
 use Rattle.ids.specs.declared.pool.Span.{Span}
-use Rattle.columns.specs.Order.{bitOf}
+use Rattle.columns.specs.Rows.{bitOf}
 use Rattle.tables.specs.Pools.{partOf}
 use Rattle.tables.specs.declared.lent.Points.{Points}
 use Rattle.tables.specs.declared.lent.Shapes.{Shapes}

@@ -8,7 +8,7 @@ use Rattle.ids.specs.Pool.{cellOf}
 use Rattle.ids.specs.declared.lookup.Found.{Found}
 use Rattle.ids.specs.declared.lookup.Found.the-variants.{At, Nothing}
 use Rattle.ids.specs.declared.pool.Span.{Span}
-use Rattle.columns.specs.Order.{bitOf}
+use Rattle.columns.specs.Rows.{bitOf}
 use Rattle.tables.specs.declared.lent.Shapes.{Shapes}
 use Rattle.trip_rows.specs.Rows.{realOf, shapeColumn, shapeSpan, stopPoint}
 use Rattle.calibration.specs.declared.affine.Sample.{Sample}

@@ -10,13 +10,13 @@ ghost use Rattle.trip_tails.specs.Tails.{hasTail, tailRow, tailFirst, on
 fn has_tail(id: &[u8], tail: &[u8]) -> bool
     ensures { λ r. ⌜ r ≡ hasTail (now (tail .entry)) (now (id .entry)) ⌝ }
 {
-    if ids::ends_with(id, tail) {
+    if texts::ends_with(id, tail) {
         return true;
     }
     if tail.len() < 8 {
         return false;
     }
-    ids::contains(id, tail)
+    texts::contains(id, tail)
 }
 
 // Whether row k's id has the tail, and its trip is another than the one found, if any is.

@@ -25,6 +25,6 @@ pub fn by_token(
         return Found::Nothing;
     }
     let mut buf = [0u8; 96];
-    let n = ids::upper_into(&mut buf, 0, token);
+    let n = keys::upper_into(&mut buf, 0, token);
     by_line(bytes, words, p, &buf[..n], today, yesterday)
 }

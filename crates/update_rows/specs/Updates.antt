@@ -8,7 +8,7 @@ use lib.ListN.{getD}
 use Rattle.ids.specs.Pool.{cellOf}
 use Rattle.ids.specs.declared.lookup.Found.{Found}
 use Rattle.ids.specs.declared.pool.Span.{Span}
-use Rattle.columns.specs.Order.{bitOf}
+use Rattle.columns.specs.Rows.{bitOf}
 use Rattle.tables.specs.declared.lent.Updates.{Updates}
 use Rattle.update_rows.specs.Rows.{bestBelow}
 use Rattle.update_rows.specs.declared.first.Moment.{Moment}

@@ -1,7 +1,7 @@
 -- The causes of the updates and of the sailing: a refusal's number, and the fault that it is given for. A table has as many rows as the column that `n` is taken of.
 use mathlib.Core.Bool.{false}
 use mathlib.Core.List.{List, [], _∷_, _++_}
-use Rattle.columns.specs.declared.order.Key.the-variants.{Word}
+use Rattle.column_order.specs.declared.order.Key.the-variants.{Word}
 use Rattle.tables.specs.Refuse.{Cause, always, whereSet, cause, idCauses}
 use Rattle.tables.specs.declared.bounds.Bounds.{Bounds}
 use Rattle.tables.specs.declared.cause.Pool.the-variants.{Bytes, Words, Times}

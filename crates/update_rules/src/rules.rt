@@ -1,5 +1,5 @@
 // The rules of updates and of the sailing.
-use columns::Key;
+use column_order::Key;
 use ids::Span;
 use tables::Bounds;
 use tables::Mark;

@@ -3,7 +3,7 @@ use borrow.Author.Needs.{needs}
 use Prim.Native.Nat.{_-_, _≤_}
 use native.Mathlib.Omega.{arith}
 use mathlib.Core.Path.{_≡_, _∙_, ap, sym}
-use Rattle.ids.specs.Texts.{isAt, orAt}
+use Rattle.ids.specs.First.{isAt, orAt}
 use Rattle.calls.specs.Calls.{isCall, stopOfCall, callRows, callStops}
 use Rattle.calls.proofs.Calls.{stop-fits}
 use Rattle.update_rows.proofs.Writing.{Collected, collect-starts, collect-few, collect-leaves, collect-takes}

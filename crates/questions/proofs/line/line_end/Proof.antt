@@ -6,9 +6,10 @@ use mathlib.Core.Path.{_≡_, sym, ap, _∙_}
 use mathlib.Core.List.{List}
 use lib.ListN.{length, take, drop, length-drop}
 use Rattle.ids.specs.declared.lookup.Found.the-variants.{At, Nothing}
-use Rattle.ids.specs.Texts.{firstByte, orAt}
+use Rattle.ids.specs.First.{orAt}
 use Rattle.ids.proofs.Pools.{rest}
-use Rattle.ids.proofs.Texts.{first-byte-fits}
+use Rattle.texts.specs.Texts.{firstByte}
+use Rattle.texts.proofs.Texts.{first-byte-fits}
 use Rattle.questions.specs.Lines.{lineEnd}
 use Rattle.questions.proofs.line.line_end.Statement.{statement}
 use Rattle.questions.proofs.line.line_end.Tie as tie

@@ -3,7 +3,7 @@ use mathlib.Core.Path.{_∙_, sym}
 use Rattle.refs.specs.Refs.{isKind}
 use Rattle.refs.proofs.journey.is_kind.Statement.{statement}
 use Rattle.refs.proofs.journey.is_kind.Tie as tie
-use Rattle.ids.proofs.equal_ignoring_case.Reads as equal-ignoring-case-reads
+use Rattle.texts.proofs.equal_ignoring_case.Reads as equal-ignoring-case-reads
 
 slice-aggregate-equal-ignoring-case : tie.Need-slice-aggregate-equal-ignoring-case
 slice-aggregate-equal-ignoring-case c = search needs

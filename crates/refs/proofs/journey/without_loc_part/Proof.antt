@@ -3,12 +3,12 @@ use Rattle.refs.specs.Refs.{withoutLocPart}
 use mathlib.Core.Path.{_∙_, sym, ap}
 use Prim.Native.Nat.{ℕ}
 use mathlib.Core.List.{List}
-use Rattle.ids.specs.Texts.{equalIgnoringCase}
+use Rattle.texts.specs.Texts.{equalIgnoringCase}
 use Rattle.refs.specs.Words.{locWord}
 use Rattle.refs.proofs.journey.without_loc_part.Statement.{statement}
 use Rattle.refs.proofs.journey.without_loc_part.Tie as tie
-use Rattle.ids.proofs.equal_ignoring_case.Reads as equal-ignoring-case-reads
-use Rattle.ids.proofs.last_of.Reads as last-of-reads
+use Rattle.texts.proofs.equal_ignoring_case.Reads as equal-ignoring-case-reads
+use Rattle.texts.proofs.last_of.Reads as last-of-reads
 use Rattle.parts.proofs.after_last.Reads as after-last-reads
 use Rattle.parts.proofs.before.Reads as before-reads
 

@@ -1,7 +1,7 @@
 use borrow.Author.Needs.{needs}
 use Rattle.refs.proofs.key.without_locs.Statement.{statement}
 use Rattle.refs.proofs.key.without_locs.Tie as tie
-use Rattle.ids.proofs.trimmed_text.Reads as trimmed-text-reads
+use Rattle.texts.proofs.trimmed_text.Reads as trimmed-text-reads
 use Rattle.parts.proofs.first.Reads as first-reads
 
 slice-aggregate-trimmed-text : tie.Need-slice-aggregate-trimmed-text

@@ -1,7 +1,7 @@
 -- `row_lookup::rows::by_names` meets its contract. Each return: the first part that differs decides.
 use borrow.Author.Needs.{needs}
 use mathlib.Core.Path.{_∙_, sym}
-use Rattle.columns.proofs.Keys.{only-part, part-less, part-more, part-same}
+use Rattle.column_order.proofs.Keys.{only-part, part-less, part-more, part-same}
 use Rattle.row_lookup.specs.Rows.{keyOf, partsAt, standOf}
 use Rattle.row_lookup.proofs.rows.by_names.Statement.{statement}
 use Rattle.row_lookup.proofs.rows.by_names.Tie as tie

@@ -7,7 +7,7 @@ use mathlib.Core.Path.{_∙_, _≡_, sym}
 use Rattle.ids.specs.declared.order.Order.{Order}
 use Rattle.ids.specs.declared.order.Order.the-variants.{Less, Same, More}
 use Rattle.ids.proofs.ByteOrder.{clash}
-use Rattle.columns.specs.Order.{cmpParts}
+use Rattle.column_order.specs.Order.{cmpParts}
 use Rattle.row_lookup.specs.Rows.{keyOf, partsAt, standOf}
 use Rattle.row_lookup.proofs.Halves.{Bracket, down, found, start, up}
 use Rattle.row_lookup.proofs.rows.seek.Statement.{statement}

@@ -1,6 +1,6 @@
 use borrow.Author.Needs.{needs}
 use mathlib.Core.Path.{_∙_, sym}
-use Rattle.columns.proofs.Keys.{only-part}
+use Rattle.column_order.proofs.Keys.{only-part}
 use Rattle.row_lookup.specs.Rows.{keyOf, partsAt, standOf}
 use Rattle.row_lookup.proofs.rows.stands.Statement.{statement}
 use Rattle.row_lookup.proofs.rows.stands.Tie as tie

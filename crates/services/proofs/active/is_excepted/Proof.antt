@@ -1,6 +1,6 @@
 use borrow.Author.Needs.{needs}
 use mathlib.Core.Path.{_∙_, ap, sym}
-use Rattle.ids.specs.Texts.{isAt}
+use Rattle.ids.specs.First.{isAt}
 use Rattle.services.specs.Runs.{excepted}
 use Rattle.services.proofs.active.is_excepted.Statement.{statement}
 use Rattle.services.proofs.active.is_excepted.Tie as tie

@@ -4,7 +4,7 @@ use Rattle.tokens.specs.Tokens.{isCode}
 use Rattle.tokens.proofs.token.is_code.Statement.{statement}
 use Rattle.tokens.proofs.token.is_code.Tie as tie
 use Rattle.ids.proofs.upper.Reads as upper-reads
-use Rattle.ids.proofs.digit_run.Reads as digit-run-reads
+use Rattle.texts.proofs.digit_run.Reads as digit-run-reads
 use Rattle.parts.proofs.from.Reads as from-reads
 
 returns : tie.Need-returns

@@ -2,7 +2,7 @@ use borrow.Author.Needs.{needs}
 use Rattle.tokens.specs.Tokens.{word}
 use Rattle.tokens.proofs.token.word_of.Statement.{statement}
 use Rattle.tokens.proofs.token.word_of.Tie as tie
-use Rattle.ids.proofs.alnum_run.Reads as alnum-run-reads
+use Rattle.texts.proofs.alnum_run.Reads as alnum-run-reads
 use Rattle.parts.proofs.first.Reads as first-reads
 
 alnum-run-requires : tie.Need-alnum-run-requires

@@ -1,0 +1,2 @@
+-- `Writes`: what a loop that writes a text into a buffer has written.
+pub mod Writes

@@ -1,0 +1,2 @@
+-- What the contracts cite. `Texts`: parts of texts.
+pub mod Texts
