@@ -1,10 +1,10 @@
 -- The causes of each part that is asked of: a refusal's number, and the fault that it is given for. A table has as many rows as the column that `n` is taken of.
 use mathlib.Core.Bool.{false}
 use mathlib.Core.List.{List, [], _∷_, _++_}
-use Rattle.tables.specs.Refuse.{Cause, always, whereSet, cause, idCauses}
+use Rattle.refusals.specs.Refuse.{Cause, always, whereSet, cause, idCauses}
 use Rattle.tables.specs.declared.bounds.Bounds.{Bounds}
-use Rattle.tables.specs.declared.cause.Pool.the-variants.{Bytes, Words, Times}
-use Rattle.tables.specs.declared.cause.Test.the-variants.{Column, Moment, Offset, NoDate}
+use Rattle.tables.specs.declared.mark.Pool.the-variants.{Bytes, Words, Times}
+use Rattle.faults.specs.declared.fault.Test.the-variants.{Column, Moment, Offset, NoDate}
 use Rattle.tables.specs.declared.lent.Journey.{Journey}
 use Rattle.tables.specs.declared.lent.LegAsked.{LegAsked}
 use Rattle.tables.specs.declared.lent.Service.{Service}

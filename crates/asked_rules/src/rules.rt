@@ -1,15 +1,15 @@
 // The rules of what matching, a calendar or a leg is asked of.
+use faults::Test;
 use ids::Span;
+use refusals::Rule;
 use tables::Bounds;
 use tables::Journey;
 use tables::LegAsked;
 use tables::Mark;
 use tables::Pool;
-use tables::Rule;
 use tables::Service;
-use tables::Test;
 ghost use mathlib.Core.Path.{_≡_};
-ghost use Rattle.tables.specs.Refuse.{causesIn};
+ghost use Rattle.refusals.specs.Refuse.{causesIn};
 ghost use Rattle.asked_rules.specs.Parts.{journeyCauses, serviceCauses, legAskedCauses};
 
 // Each row has a value.

@@ -8,7 +8,8 @@ use Rattle.ids.proofs.ByteOrder.{clash}
 use Rattle.measure.specs.Answer.{given}
 use Rattle.answers.specs.Answers.{unlessRefused}
 use Rattle.tables.specs.Pools.{Pools}
-use Rattle.tables.specs.Refuse.{chartBounds, refusalOf}
+use Rattle.tables.specs.Bounds.{chartBounds}
+use Rattle.refusals.specs.Refuse.{refusalOf}
 use Rattle.tables.specs.declared.lent.Tables.{Tables}
 use Rattle.checks.specs.Operations.{estimateCauses}
 use Rattle.timeline.specs.Turn.{timeAt}

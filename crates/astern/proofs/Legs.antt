@@ -9,7 +9,8 @@ use Rattle.ids.specs.declared.pool.Span.{Span}
 use Rattle.lengths.specs.Line.{lineOf}
 use Rattle.lengths.proofs.Rows.{vertex-count}
 use Rattle.tables.specs.Pools.{Pools}
-use Rattle.tables.specs.Refuse.{chartBounds, refusalOf}
+use Rattle.tables.specs.Bounds.{chartBounds}
+use Rattle.refusals.specs.Refuse.{refusalOf}
 use Rattle.tables.specs.declared.lent.Tables.{Tables}
 use Rattle.checks.specs.Operations.{estimateCauses}
 use Rattle.trip_rows.specs.Rows.{shapeColumn}

@@ -9,7 +9,8 @@ use lib.Seq.{getD-take, getD-drop}
 use Rattle.ids.specs.declared.pool.Span.{Span}
 use Rattle.ids.proofs.ByteOrder.{clash}
 use Rattle.tables.specs.Pools.{Pools, partOf}
-use Rattle.tables.specs.Refuse.{chartBounds, refusalOf}
+use Rattle.tables.specs.Bounds.{chartBounds}
+use Rattle.refusals.specs.Refuse.{refusalOf}
 use Rattle.tables.specs.declared.lent.Tables.{Tables}
 use Rattle.tables.specs.declared.lent.Updates.{Updates}
 use Rattle.checks.specs.Operations.{estimateCauses}

@@ -20,7 +20,9 @@ use Rattle.columns.specs.Rows.{some, counts, among, bitOf}
 use Rattle.column_ids.specs.Text.{badByteAt, badText, badId, badIdAt}
 use Rattle.column_order.specs.Order.{partsOf, cmpParts, cmpRows, outOfOrderAt}
 use Rattle.tables.specs.Pools.{Pools}
-use Rattle.tables.specs.Refuse.{chartBounds, refusalOf, failsOf, leastOf, joined}
+use Rattle.tables.specs.Bounds.{chartBounds}
+use Rattle.faults.specs.Fault.{failsOf}
+use Rattle.refusals.specs.Refuse.{refusalOf, leastOf, joined}
 use Rattle.tables.specs.declared.lent.Tables.{Tables}
 use Rattle.geometry_checks.specs.Operations.{geometryCauses}
 use Rattle.checks.specs.Operations.{estimateCauses, tripLookupCauses, calendarTablesCauses}

@@ -1,5 +1,5 @@
 -- What is so of each calendar table where no cause of it is there. A number after `at` is a cause's place in the part's list.
--- `Rattle.tables.proofs.Facts` has what each kind of fact says, and `counted` for the part's columns and counts.
+-- `Rattle.refusals.proofs.Facts` has what each kind of fact says, and `counted` for the part's columns and counts.
 use Prim.Native.Nat.{ℕ}
 use mathlib.Core.Bool.{false}
 use lib.ListN.{drop, length}
@@ -8,13 +8,13 @@ use Rattle.ids.specs.Rows.{Ascending}
 use Rattle.column_order.specs.declared.order.Key.the-variants.{Dated}
 use Rattle.column_order.specs.declared.order.Key.the-variants.{Ids as KeyIds}
 use Rattle.tables.specs.Pools.{Pools}
-use Rattle.tables.specs.Refuse.{always}
+use Rattle.refusals.specs.Refuse.{always}
 use Rattle.tables.specs.declared.bounds.Bounds.{Bounds}
 use Rattle.tables.specs.declared.lent.Calendars.{Calendars}
 use Rattle.tables.specs.declared.lent.Exceptions.{Exceptions}
 use Rattle.tables.specs.declared.lent.Ranges.{Ranges}
-use Rattle.tables.proofs.Passed.{Clear, clear-drop, clear-part}
-use Rattle.tables.proofs.Facts.{Dates, dates, Ascend, ascend, by-id, IdsHold, ids-hold, Sized, counted}
+use Rattle.refusals.proofs.Passed.{Clear, clear-drop, clear-part}
+use Rattle.refusals.proofs.Facts.{Dates, dates, Ascend, ascend, by-id, IdsHold, ids-hold, Sized, counted}
 use Rattle.calendar_rules.specs.Parts.{calendarsCauses, rangesCauses, exceptionsCauses}
 
 module _ (p : Pools) where

@@ -3,10 +3,10 @@ use mathlib.Core.Bool.{false}
 use mathlib.Core.List.{List, [], _∷_, _++_}
 use Rattle.column_order.specs.declared.order.Key.the-variants.{Id, Dated}
 use Rattle.column_order.specs.declared.order.Key.the-variants.{Ids as KeyIds}
-use Rattle.tables.specs.Refuse.{Cause, always, cause, idCauses}
+use Rattle.refusals.specs.Refuse.{Cause, always, cause, idCauses}
 use Rattle.tables.specs.declared.bounds.Bounds.{Bounds}
-use Rattle.tables.specs.declared.cause.Pool.the-variants.{Bytes, Words}
-use Rattle.tables.specs.declared.cause.Test.the-variants.{Column, Over, Unsorted, NoDate}
+use Rattle.tables.specs.declared.mark.Pool.the-variants.{Bytes, Words}
+use Rattle.faults.specs.declared.fault.Test.the-variants.{Column, Over, Unsorted, NoDate}
 use Rattle.tables.specs.declared.lent.Calendars.{Calendars}
 use Rattle.tables.specs.declared.lent.Exceptions.{Exceptions}
 use Rattle.tables.specs.declared.lent.Ranges.{Ranges}

@@ -1,16 +1,16 @@
 // The rules of calendars, ranges and exceptions.
 use column_order::Key;
+use faults::Test;
 use ids::Span;
+use refusals::Rule;
 use tables::Bounds;
 use tables::Calendars;
 use tables::Exceptions;
 use tables::Mark;
 use tables::Pool;
 use tables::Ranges;
-use tables::Rule;
-use tables::Test;
 ghost use mathlib.Core.Path.{_≡_};
-ghost use Rattle.tables.specs.Refuse.{causesIn};
+ghost use Rattle.refusals.specs.Refuse.{causesIn};
 ghost use Rattle.calendar_rules.specs.Parts.{calendarsCauses, rangesCauses, exceptionsCauses};
 
 // Each row has a value.

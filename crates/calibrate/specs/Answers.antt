@@ -5,7 +5,8 @@ use Rattle.measure.specs.Answer.{Answer, refused, given}
 use Rattle.lengths.specs.Line.{lineOf}
 use Rattle.lengths.specs.declared.line.Point.{Point}
 use Rattle.tables.specs.Pools.{Pools, partOf}
-use Rattle.tables.specs.Refuse.{chartBounds, refusalOf}
+use Rattle.tables.specs.Bounds.{chartBounds}
+use Rattle.refusals.specs.Refuse.{refusalOf}
 use Rattle.tables.specs.declared.lent.Points.{Points}
 use Rattle.tables.specs.declared.lent.Samples.{Samples}
 use Rattle.answers.specs.Answers.{unlessRefused}

@@ -2,12 +2,12 @@
 use mathlib.Core.Path.{_≡_}
 use lib.Dec.{T}
 use Rattle.tables.specs.Pools.{Pools}
-use Rattle.tables.specs.Refuse.{joined, refusalOf}
+use Rattle.refusals.specs.Refuse.{joined, refusalOf}
 use Rattle.tables.specs.declared.bounds.Bounds.{Bounds}
 use Rattle.tables.specs.declared.lent.Journey.{Journey}
 use Rattle.tables.specs.declared.lent.Service.{Service}
 use Rattle.tables.specs.declared.lent.Tables.{Tables}
-use Rattle.tables.proofs.Passed.{numbered, Clear, clear-at, not-refused}
+use Rattle.refusals.proofs.Passed.{numbered, Clear, clear-at, not-refused}
 use Rattle.schedule_rules.specs.Parts.{callTimesCauses, callsCauses, tripsCauses}
 use Rattle.calendar_rules.specs.Parts.{calendarsCauses, exceptionsCauses, rangesCauses}
 use Rattle.lookup_rules.specs.Parts.{aliasesCauses, idRowsCauses, linesCauses}

@@ -1,13 +1,13 @@
 // Each operation's check: the least refusal over the rules of every table that is lent to it.
 use geometry_checks::check_geometry;
+use refusals::least;
 use tables::Bounds;
 use tables::Journey;
 use tables::Service;
 use tables::Tables;
-use tables::least;
 ghost use mathlib.Core.Path.{_≡_};
 ghost use Rattle.tables.specs.Pools.{pools};
-ghost use Rattle.tables.specs.Refuse.{leastOf, refusalOf};
+ghost use Rattle.refusals.specs.Refuse.{leastOf, refusalOf};
 ghost use Rattle.checks.specs.Operations.{calendarTablesCauses, tripLookupCauses, serviceDayCauses, matchingCauses, estimateCauses};
 
 // The calendars, ranges and exceptions.

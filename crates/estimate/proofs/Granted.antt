@@ -5,7 +5,8 @@ use mathlib.Core.Path.{_≡_, refl}
 use mathlib.Core.List.{List}
 use lib.ListN.{length}
 use Rattle.tables.specs.Pools.{Pools}
-use Rattle.tables.specs.Refuse.{chartBounds, refusalOf}
+use Rattle.tables.specs.Bounds.{chartBounds}
+use Rattle.refusals.specs.Refuse.{refusalOf}
 use Rattle.tables.specs.declared.lent.Tables.{Tables}
 use Rattle.checks.specs.Operations.{estimateCauses}
 use Rattle.calls.specs.Calls.{reportedOf, callRows}

@@ -2,7 +2,8 @@
 use Rattle.measure.specs.Answer.{Answer, refused, given}
 use Rattle.answers.specs.Answers.{unlessRefused}
 use Rattle.tables.specs.Pools.{Pools}
-use Rattle.tables.specs.Refuse.{chartBounds, refusalOf}
+use Rattle.tables.specs.Bounds.{chartBounds}
+use Rattle.refusals.specs.Refuse.{refusalOf}
 use Rattle.tables.specs.declared.lent.Tables.{Tables}
 use Rattle.checks.specs.Operations.{estimateCauses}
 use Rattle.sailings.specs.Sailing.{clockOf}

@@ -10,10 +10,11 @@ use lib.ListN.{drop, getD, length}
 use lib.Signed.{_≤ℤ_}
 use Rattle.ids.proofs.ByteOrder.{clash}
 use Rattle.tables.specs.Pools.{Pools}
-use Rattle.tables.specs.Refuse.{always, whereSet, chartBounds, refusalOf}
+use Rattle.tables.specs.Bounds.{chartBounds}
+use Rattle.refusals.specs.Refuse.{always, whereSet, refusalOf}
 use Rattle.tables.specs.declared.lent.Tables.{Tables}
-use Rattle.tables.proofs.Facts.{Sized, all-count, counted}
-use Rattle.tables.proofs.Passed.{clear-drop}
+use Rattle.refusals.proofs.Facts.{Sized, all-count, counted}
+use Rattle.refusals.proofs.Passed.{clear-drop}
 use Rattle.lookup_rules.proofs.Parts.{row-ids-good}
 use Rattle.update_rules.specs.Parts.{updatesCauses, arrivalsCauses, updateDeparturesCauses, sailingCauses}
 use Rattle.update_rules.proofs.Parts.{update-stops, arrivals-between, update-departures-between, sailing-feed, now-between, offset-between}

@@ -11,12 +11,12 @@ use Rattle.ids.specs.Pool.{cellOf, idOf}
 use Rattle.ids.specs.declared.pool.IdColumn.{IdColumn}
 use Rattle.ids.specs.declared.pool.Span.{Span}
 use Rattle.tables.specs.Pools.{Pools}
-use Rattle.tables.specs.Refuse.{always, whereSet}
+use Rattle.refusals.specs.Refuse.{always, whereSet}
 use Rattle.tables.specs.declared.bounds.Bounds.{Bounds}
-use Rattle.tables.specs.declared.cause.Mark.{Mark}
+use Rattle.tables.specs.declared.mark.Mark.{Mark}
 use Rattle.tables.specs.declared.lent.IdRows.{IdRows}
-use Rattle.tables.proofs.Facts.{Sized, Counts, Below, Between, RangesWithin, IdsHold, all-count, counted, part-at}
-use Rattle.tables.proofs.Passed.{Clear, clear-drop}
+use Rattle.refusals.proofs.Facts.{Sized, Counts, Below, Between, RangesWithin, IdsHold, all-count, counted, part-at}
+use Rattle.refusals.proofs.Passed.{Clear, clear-drop}
 use Rattle.lookup_rules.specs.Parts.{idRowsCauses}
 use Rattle.lookup_rules.proofs.Parts.{row-ids, rows-below}
 use Rattle.timetable.proofs.Holds.{flag-counts}

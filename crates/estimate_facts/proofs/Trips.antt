@@ -12,10 +12,11 @@ use Rattle.ids.specs.declared.lookup.Found.the-variants.{At}
 use Rattle.ids.specs.declared.pool.Span.{Span}
 use Rattle.columns.specs.Rows.{bitOf}
 use Rattle.tables.specs.Pools.{Pools}
-use Rattle.tables.specs.Refuse.{always, whereSet, chartBounds, refusalOf}
+use Rattle.tables.specs.Bounds.{chartBounds}
+use Rattle.refusals.specs.Refuse.{always, whereSet, refusalOf}
 use Rattle.tables.specs.declared.lent.Tables.{Tables}
-use Rattle.tables.proofs.Facts.{all-count, counted}
-use Rattle.tables.proofs.Passed.{clear-drop}
+use Rattle.refusals.proofs.Facts.{all-count, counted}
+use Rattle.refusals.proofs.Passed.{clear-drop}
 use Rattle.schedule_rules.specs.Parts.{tripsCauses, callsCauses}
 use Rattle.schedule_rules.proofs.Parts.{trip-rows-within, trip-shapes-below, call-stops-below, call-arrivals-below, call-departures-below}
 use Rattle.shape_rules.specs.Parts.{shapesCauses}

@@ -2,13 +2,13 @@
 use mathlib.Core.Path.{_≡_}
 use lib.Dec.{T}
 use Rattle.tables.specs.Pools.{Pools}
-use Rattle.tables.specs.Refuse.{joined, refusalOf}
+use Rattle.refusals.specs.Refuse.{joined, refusalOf}
 use Rattle.tables.specs.declared.bounds.Bounds.{Bounds}
 use Rattle.tables.specs.declared.lent.Along.{Along}
 use Rattle.tables.specs.declared.lent.LegAsked.{LegAsked}
 use Rattle.tables.specs.declared.lent.Samples.{Samples}
 use Rattle.tables.specs.declared.lent.Tables.{Tables}
-use Rattle.tables.proofs.Passed.{numbered, Clear, clear-at, not-refused}
+use Rattle.refusals.proofs.Passed.{numbered, Clear, clear-at, not-refused}
 use Rattle.schedule_rules.specs.Parts.{callsCauses, placingCauses, stopsCauses, tripsCauses}
 use Rattle.shape_rules.specs.Parts.{lineCauses, measuresCauses, pointsCauses, pointsWithinCauses, shapesCauses}
 use Rattle.lookup_rules.specs.Parts.{idRowsCauses}

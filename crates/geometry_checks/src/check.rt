@@ -1,13 +1,13 @@
 // Each operation's check: the least refusal over the rules of every table that is lent to it.
+use refusals::least;
 use tables::Along;
 use tables::Bounds;
 use tables::LegAsked;
 use tables::Samples;
 use tables::Tables;
-use tables::least;
 ghost use mathlib.Core.Path.{_≡_};
 ghost use Rattle.tables.specs.Pools.{pools};
-ghost use Rattle.tables.specs.Refuse.{refusalOf};
+ghost use Rattle.refusals.specs.Refuse.{refusalOf};
 ghost use Rattle.geometry_checks.specs.Operations.{geometryCauses, legCauses, interpolationCauses, calibrationCauses};
 
 // The first refusal of projection and backfill, or 0: stops, trips, stop times, shapes and points.

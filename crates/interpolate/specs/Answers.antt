@@ -5,7 +5,8 @@ use Rattle.measure.specs.Answer.{Answer, refused, given}
 use Rattle.answers.specs.Answers.{unlessRefused}
 use Rattle.lengths.specs.Line.{lineOf}
 use Rattle.tables.specs.Pools.{Pools, partOf}
-use Rattle.tables.specs.Refuse.{chartBounds, refusalOf}
+use Rattle.tables.specs.Bounds.{chartBounds}
+use Rattle.refusals.specs.Refuse.{refusalOf}
 use Rattle.tables.specs.declared.lent.Along.{Along}
 use Rattle.geometry_checks.specs.Operations.{interpolationCauses}
 use Rattle.stretches.specs.declared.drawing.Interpolated.{Interpolated}

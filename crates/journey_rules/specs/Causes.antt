@@ -2,10 +2,10 @@
 -- points as those of a shape.
 use Prim.Native.Nat.{ℕ, _+_}
 use mathlib.Core.List.{List, [], _∷_}
-use Rattle.tables.specs.Refuse.{Cause, always, whereSet, cause, joined}
+use Rattle.refusals.specs.Refuse.{Cause, always, whereSet, cause, joined}
 use Rattle.tables.specs.declared.bounds.Bounds.{Bounds}
-use Rattle.tables.specs.declared.cause.Pool.the-variants.{Bytes, Words, Reals}
-use Rattle.tables.specs.declared.cause.Test.the-variants.{Column, Over, Reaches, OffGlobe, EndsPast}
+use Rattle.tables.specs.declared.mark.Pool.the-variants.{Bytes, Words, Reals}
+use Rattle.faults.specs.declared.fault.Test.the-variants.{Column, Over, Reaches, OffGlobe, EndsPast}
 use Rattle.shape_rules.specs.Parts.{pointsCauses}
 use Rattle.journey_rules.specs.declared.lent.JourneyLegs.{JourneyLegs}
 

@@ -1,14 +1,14 @@
 // The rules of what is lent. Document 01 bounds no journey: legs are bounded as its tables of rows are, and a leg's points as those of a shape, the only
 // line that it bounds.
 use crate::lent::JourneyLegs;
+use faults::Test;
 use ids::Span;
+use refusals::Rule;
 use tables::Bounds;
 use tables::Mark;
 use tables::Pool;
-use tables::Rule;
-use tables::Test;
 ghost use mathlib.Core.Path.{_≡_};
-ghost use Rattle.tables.specs.Refuse.{causesIn};
+ghost use Rattle.refusals.specs.Refuse.{causesIn};
 ghost use Rattle.journey_rules.specs.Causes.{legsCauses, endsCauses};
 
 // Each row has a value.

@@ -2,11 +2,11 @@
 use journey_rules::JourneyLegs;
 use journey_rules::ends;
 use journey_rules::legs;
+use refusals::least;
 use tables::Bounds;
-use tables::least;
 ghost use mathlib.Core.Path.{_≡_};
 ghost use Rattle.tables.specs.Pools.{pools};
-ghost use Rattle.tables.specs.Refuse.{refusalOf};
+ghost use Rattle.refusals.specs.Refuse.{refusalOf};
 ghost use Rattle.journey_rules.specs.Causes.{journeyCauses};
 
 pub(crate) fn check_journey(

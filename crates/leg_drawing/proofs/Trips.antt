@@ -12,7 +12,8 @@ use Rattle.ids.specs.declared.pool.Span.{Span}
 use Rattle.lengths.specs.Line.{lineOf}
 use Rattle.measure.specs.Answer.{Answer}
 use Rattle.tables.specs.Pools.{Pools}
-use Rattle.tables.specs.Refuse.{chartBounds, refusalOf}
+use Rattle.tables.specs.Bounds.{chartBounds}
+use Rattle.refusals.specs.Refuse.{refusalOf}
 use Rattle.tables.specs.declared.lent.LegAsked.{LegAsked}
 use Rattle.tables.specs.declared.lent.Tables.{Tables}
 use Rattle.geometry_checks.specs.Operations.{legCauses}

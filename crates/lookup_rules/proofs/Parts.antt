@@ -1,5 +1,5 @@
 -- What is so of each part that trips and stops are looked up by where no cause of it is there. A number after `at` is a cause's place in the part's list.
--- `Rattle.tables.proofs.Facts` has what each kind of fact says, and `counted` for the part's columns and counts.
+-- `Rattle.refusals.proofs.Facts` has what each kind of fact says, and `counted` for the part's columns and counts.
 use Prim.Native.Nat.{ℕ, _<_, _≤_}
 use native.Mathlib.Omega.{arith}
 use mathlib.Core.Path.{refl, sym, subst}
@@ -9,13 +9,13 @@ use Rattle.ids.specs.Pool.{idOf}
 use Rattle.ids.specs.Rows.{Ascending, GoodIds}
 use Rattle.column_order.specs.declared.order.Key.the-variants.{IdWord}
 use Rattle.tables.specs.Pools.{Pools}
-use Rattle.tables.specs.Refuse.{always}
+use Rattle.refusals.specs.Refuse.{always}
 use Rattle.tables.specs.declared.bounds.Bounds.{Bounds}
 use Rattle.tables.specs.declared.lent.Aliases.{Aliases}
 use Rattle.tables.specs.declared.lent.IdRows.{IdRows}
 use Rattle.tables.specs.declared.lent.Lines.{Lines}
-use Rattle.tables.proofs.Passed.{Clear, clear-drop, clear-part}
-use Rattle.tables.proofs.Facts.{Below, below, Ascend, ascend, by-id, IdsHold, ids-hold, all-count, good-ids}
+use Rattle.refusals.proofs.Passed.{Clear, clear-drop, clear-part}
+use Rattle.refusals.proofs.Facts.{Below, below, Ascend, ascend, by-id, IdsHold, ids-hold, all-count, good-ids}
 use Rattle.lookup_rules.specs.Parts.{idRowsCauses, aliasesCauses, linesCauses}
 
 module _ (p : Pools) where

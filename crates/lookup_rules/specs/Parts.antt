@@ -3,10 +3,10 @@ use Prim.Native.Nat.{ℕ}
 use mathlib.Core.Bool.{false}
 use mathlib.Core.List.{List, [], _∷_, _++_}
 use Rattle.column_order.specs.declared.order.Key.the-variants.{Id, IdWord}
-use Rattle.tables.specs.Refuse.{Cause, always, cause, idCauses}
+use Rattle.refusals.specs.Refuse.{Cause, always, cause, idCauses}
 use Rattle.tables.specs.declared.bounds.Bounds.{Bounds}
-use Rattle.tables.specs.declared.cause.Pool.the-variants.{Words}
-use Rattle.tables.specs.declared.cause.Test.the-variants.{Column, Over, Reaches, Unsorted}
+use Rattle.tables.specs.declared.mark.Pool.the-variants.{Words}
+use Rattle.faults.specs.declared.fault.Test.the-variants.{Column, Over, Reaches, Unsorted}
 use Rattle.tables.specs.declared.lent.Aliases.{Aliases}
 use Rattle.tables.specs.declared.lent.IdRows.{IdRows}
 use Rattle.tables.specs.declared.lent.Lines.{Lines}

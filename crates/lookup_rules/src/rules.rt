@@ -1,16 +1,16 @@
 // The rules of ids with rows, aliases and lines.
 use column_order::Key;
+use faults::Test;
 use ids::Span;
+use refusals::Rule;
 use tables::Aliases;
 use tables::Bounds;
 use tables::IdRows;
 use tables::Lines;
 use tables::Mark;
 use tables::Pool;
-use tables::Rule;
-use tables::Test;
 ghost use mathlib.Core.Path.{_≡_};
-ghost use Rattle.tables.specs.Refuse.{causesIn};
+ghost use Rattle.refusals.specs.Refuse.{causesIn};
 ghost use Rattle.lookup_rules.specs.Parts.{idRowsCauses, aliasesCauses, linesCauses};
 
 // Each row has a value.

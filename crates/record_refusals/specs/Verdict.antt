@@ -3,7 +3,7 @@ use Prim.Native.Nat.{ℕ}
 use mathlib.Core.Bool.{cond, _||_}
 use mathlib.Core.List.{List, [], _∷_}
 use lib.Dec.{eqb, ltb}
-use Rattle.tables.specs.Refuse.{Cause, joined}
+use Rattle.refusals.specs.Refuse.{Cause, joined}
 use Rattle.tables.specs.declared.bounds.Bounds.{Bounds}
 use Rattle.schedule_rules.specs.Parts.{stopsCauses}
 use Rattle.shape_rules.specs.Parts.{lineCauses}

@@ -3,13 +3,14 @@
 ghost use mathlib.Core.Path.{_≡_};
 ghost use mathlib.Core.List.{[]};
 ghost use Rattle.tables.specs.Pools.{pools};
-ghost use Rattle.tables.specs.Refuse.{chartBounds, refusalOf};
+ghost use Rattle.tables.specs.Bounds.{chartBounds};
+ghost use Rattle.refusals.specs.Refuse.{refusalOf};
 ghost use Rattle.record_refusals.specs.Verdict.{lentCauses, earlier, numbered, overOf, shortOf, verdictOf};
 use record_faults::Faults;
+use refusals::least;
 use tables::Bounds;
 use tables::Points;
 use tables::Stops;
-use tables::least;
 
 // The stops, and the points of the trip's shape.
 #[repr(C)]

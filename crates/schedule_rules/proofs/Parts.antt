@@ -1,16 +1,16 @@
 -- What is so of each part of the schedule where no cause of it is there. A number after `at` is a cause's place in the part's list.
--- `Rattle.tables.proofs.Facts` has what each kind of fact says, and `counted` for the part's columns and counts.
+-- `Rattle.refusals.proofs.Facts` has what each kind of fact says, and `counted` for the part's columns and counts.
 use Prim.Native.Nat.{ℕ}
 use mathlib.Core.Bool.{true, false}
 use lib.ListN.{drop}
 use Rattle.tables.specs.Pools.{Pools}
-use Rattle.tables.specs.Refuse.{always, whereSet}
+use Rattle.refusals.specs.Refuse.{always, whereSet}
 use Rattle.tables.specs.declared.bounds.Bounds.{Bounds}
 use Rattle.tables.specs.declared.lent.StopTimes.{StopTimes}
 use Rattle.tables.specs.declared.lent.Stops.{Stops}
 use Rattle.tables.specs.declared.lent.Trips.{Trips}
-use Rattle.tables.proofs.Passed.{Clear, clear-drop, clear-part}
-use Rattle.tables.proofs.Facts.{Below, below, Finite, finite, OnGlobe, on-the-globe, RangesWithin, ranges-within, IdsHold, ids-hold}
+use Rattle.refusals.proofs.Passed.{Clear, clear-drop, clear-part}
+use Rattle.refusals.proofs.Facts.{Below, below, Finite, finite, OnGlobe, on-the-globe, RangesWithin, ranges-within, IdsHold, ids-hold}
 use Rattle.schedule_rules.specs.Parts.{stopsCauses, tripsCauses, callsCauses, placingCauses, callTimesCauses}
 
 module _ (p : Pools) where

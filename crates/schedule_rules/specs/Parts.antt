@@ -3,10 +3,10 @@
 use Prim.Native.Nat.{ℕ}
 use mathlib.Core.Bool.{true, false}
 use mathlib.Core.List.{List, [], _∷_, _++_}
-use Rattle.tables.specs.Refuse.{Cause, always, whereSet, cause, idCauses}
+use Rattle.refusals.specs.Refuse.{Cause, always, whereSet, cause, idCauses}
 use Rattle.tables.specs.declared.bounds.Bounds.{Bounds}
-use Rattle.tables.specs.declared.cause.Pool.the-variants.{Bytes, Words, Reals, Dists}
-use Rattle.tables.specs.declared.cause.Test.the-variants.{Column, Over, Reaches, OffGlobe, EndsPast, NotFinite}
+use Rattle.tables.specs.declared.mark.Pool.the-variants.{Bytes, Words, Reals, Dists}
+use Rattle.faults.specs.declared.fault.Test.the-variants.{Column, Over, Reaches, OffGlobe, EndsPast, NotFinite}
 use Rattle.tables.specs.declared.lent.StopTimes.{StopTimes}
 use Rattle.tables.specs.declared.lent.Stops.{Stops}
 use Rattle.tables.specs.declared.lent.Trips.{Trips}

@@ -1,15 +1,15 @@
 // The rules of stops, trips and stop times.
+use faults::Test;
 use ids::Span;
+use refusals::Rule;
 use tables::Bounds;
 use tables::Mark;
 use tables::Pool;
-use tables::Rule;
 use tables::StopTimes;
 use tables::Stops;
-use tables::Test;
 use tables::Trips;
 ghost use mathlib.Core.Path.{_≡_};
-ghost use Rattle.tables.specs.Refuse.{causesIn};
+ghost use Rattle.refusals.specs.Refuse.{causesIn};
 ghost use Rattle.schedule_rules.specs.Parts.{stopsCauses, tripsCauses, callsCauses, placingCauses, callTimesCauses};
 
 // Each row has a value.

@@ -1,5 +1,5 @@
 -- What is so of shapes, points and measures where no cause of them is there. A number after `at` is a cause's place in the part's list.
--- `Rattle.tables.proofs.Facts` has what each kind of fact says, and `counted` for the part's columns and counts.
+-- `Rattle.refusals.proofs.Facts` has what each kind of fact says, and `counted` for the part's columns and counts.
 use Prim.Native.Nat.{ℕ, _+_}
 use mathlib.Core.Bool.{false}
 use lib.ListN.{drop}
@@ -7,12 +7,12 @@ use Rattle.ids.specs.Pool.{idOf}
 use Rattle.ids.specs.Rows.{Ascending}
 use Rattle.ids.specs.declared.pool.Span.{Span}
 use Rattle.tables.specs.Pools.{Pools}
-use Rattle.tables.specs.Refuse.{always}
+use Rattle.refusals.specs.Refuse.{always}
 use Rattle.tables.specs.declared.bounds.Bounds.{Bounds}
 use Rattle.tables.specs.declared.lent.Points.{Points}
 use Rattle.tables.specs.declared.lent.Shapes.{Shapes}
-use Rattle.tables.proofs.Passed.{Clear, clear-drop, clear-part}
-use Rattle.tables.proofs.Facts.{Below, below, Finite, finite, Numbers, numbers, OnGlobe, on-the-globe, RangesWithin, ranges-within, by-id, IdsHold, ids-hold}
+use Rattle.refusals.proofs.Passed.{Clear, clear-drop, clear-part}
+use Rattle.refusals.proofs.Facts.{Below, below, Finite, finite, Numbers, numbers, OnGlobe, on-the-globe, RangesWithin, ranges-within, by-id, IdsHold, ids-hold}
 use Rattle.shape_rules.specs.Parts.{shapesCauses, pointsCauses, pointsWithinCauses, measuresCauses}
 
 module _ (p : Pools) where

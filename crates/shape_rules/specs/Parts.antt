@@ -4,10 +4,10 @@ use mathlib.Core.Bool.{false}
 use mathlib.Core.List.{List, [], _∷_, _++_}
 use Rattle.ids.specs.declared.pool.Span.{Span}
 use Rattle.column_order.specs.declared.order.Key.the-variants.{Id}
-use Rattle.tables.specs.Refuse.{Cause, always, cause, idCauses}
+use Rattle.refusals.specs.Refuse.{Cause, always, cause, idCauses}
 use Rattle.tables.specs.declared.bounds.Bounds.{Bounds}
-use Rattle.tables.specs.declared.cause.Pool.the-variants.{Words, Reals, Dists}
-use Rattle.tables.specs.declared.cause.Test.the-variants.{Column, Over, Reaches, OffGlobe, Unsorted, EndsPast, NotFinite, NotANumber}
+use Rattle.tables.specs.declared.mark.Pool.the-variants.{Words, Reals, Dists}
+use Rattle.faults.specs.declared.fault.Test.the-variants.{Column, Over, Reaches, OffGlobe, Unsorted, EndsPast, NotFinite, NotANumber}
 use Rattle.tables.specs.declared.lent.Points.{Points}
 use Rattle.tables.specs.declared.lent.Shapes.{Shapes}
 

@@ -1,15 +1,15 @@
 // The rules of shapes, points and measures.
 use column_order::Key;
+use faults::Test;
 use ids::Span;
+use refusals::Rule;
 use tables::Bounds;
 use tables::Mark;
 use tables::Points;
 use tables::Pool;
-use tables::Rule;
 use tables::Shapes;
-use tables::Test;
 ghost use mathlib.Core.Path.{_≡_};
-ghost use Rattle.tables.specs.Refuse.{causesIn};
+ghost use Rattle.refusals.specs.Refuse.{causesIn};
 ghost use Rattle.shape_rules.specs.Parts.{shapesCauses, pointsCauses, pointsWithinCauses, measuresCauses};
 
 // Each row has a value.

@@ -1,3 +1,3 @@
--- `Pools`: what is lent. `Refuse`: what makes a refusal, and the first that applies.
+-- `Pools`: what is lent. `Bounds`: how large each table and id may be.
 pub mod Pools
-pub mod Refuse
+pub mod Bounds

@@ -5,9 +5,9 @@ use lib.IntN.{ℤ}
 use lib.Ieee.{Float}
 use lib.ListN.{length, take, drop}
 use Rattle.ids.specs.declared.pool.Span.{Span}
-use Rattle.tables.specs.declared.cause.Mark.{Mark}
-use Rattle.tables.specs.declared.cause.Pool.{Pool}
-use Rattle.tables.specs.declared.cause.Pool.the-variants.{Bytes, Words, Times, Reals, Dists}
+use Rattle.tables.specs.declared.mark.Mark.{Mark}
+use Rattle.tables.specs.declared.mark.Pool.{Pool}
+use Rattle.tables.specs.declared.mark.Pool.the-variants.{Bytes, Words, Times, Reals, Dists}
 
 pub record Pools : Type 0 where
   pub bytes : List ℕ

@@ -1,6 +1,6 @@
 // How large each table and id may be.
 ghost use mathlib.Core.Path.{_≡_};
-ghost use Rattle.tables.specs.Refuse.{chartBounds};
+ghost use Rattle.tables.specs.Bounds.{chartBounds};
 
 pub struct Bounds {
     pub stops: u32,

@@ -15,11 +15,12 @@ use Rattle.days.proofs.Months.{months-bound}
 use Rattle.days.proofs.Years.{years-bound}
 use Rattle.columns.specs.Rows.{bitOf, counts}
 use Rattle.tables.specs.Pools.{Pools, partOf}
-use Rattle.tables.specs.Refuse.{always, whereSet, chartBounds, refusalOf}
+use Rattle.tables.specs.Bounds.{chartBounds}
+use Rattle.refusals.specs.Refuse.{always, whereSet, refusalOf}
 use Rattle.tables.specs.declared.lent.Journey.{Journey}
 use Rattle.tables.specs.declared.lent.Service.{Service}
 use Rattle.tables.specs.declared.lent.Tables.{Tables}
-use Rattle.tables.proofs.Facts.{Sized, Counts, all-count, part-at}
+use Rattle.refusals.proofs.Facts.{Sized, Counts, all-count, part-at}
 use Rattle.calendar_rules.proofs.Parts.{calendar-feeds-ascend, ranges-ascend, exceptions-ascend, exception-days, exception-dates}
 use Rattle.lookup_rules.proofs.Parts.{row-ids-good, alias-ids-good, line-tokens-short, lines-ascend}
 use Rattle.asked_rules.proofs.Parts.{journey-departure, journey-departs, journey-offset, journey-departure-between, journey-offset-between}

@@ -5,7 +5,8 @@ use Rattle.ids.specs.declared.lookup.Found.the-variants.{At, Nothing}
 use Rattle.measure.specs.Answer.{Answer, refused, given}
 use Rattle.answers.specs.Answers.{unlessRefused}
 use Rattle.tables.specs.Pools.{Pools}
-use Rattle.tables.specs.Refuse.{chartBounds, refusalOf}
+use Rattle.tables.specs.Bounds.{chartBounds}
+use Rattle.refusals.specs.Refuse.{refusalOf}
 use Rattle.tables.specs.declared.lent.Journey.{Journey}
 use Rattle.tables.specs.declared.lent.Service.{Service}
 use Rattle.tables.specs.declared.lent.Tables.{Tables}

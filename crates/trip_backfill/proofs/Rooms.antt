@@ -9,7 +9,8 @@ use lib.ListN.{length, drop}
 use Rattle.measure.specs.Answer.{Answer, refused, given}
 use Rattle.answers.proofs.Told.{denied, refused-first, kept}
 use Rattle.tables.specs.Pools.{Pools, partOf}
-use Rattle.tables.specs.Refuse.{chartBounds, refusalOf}
+use Rattle.tables.specs.Bounds.{chartBounds}
+use Rattle.refusals.specs.Refuse.{refusalOf}
 use Rattle.tables.specs.declared.lent.Tables.{Tables}
 use Rattle.geometry_checks.specs.Operations.{geometryCauses}
 use Rattle.backfill.specs.Rows.{rowsOf, distsIn, marksIn}

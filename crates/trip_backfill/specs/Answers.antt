@@ -6,7 +6,8 @@ use lib.ListN.{length}
 use Rattle.measure.specs.Answer.{Answer, refused, given}
 use Rattle.answers.specs.Answers.{unlessRefused, orShort, unlessKept}
 use Rattle.tables.specs.Pools.{Pools, partOf}
-use Rattle.tables.specs.Refuse.{chartBounds, refusalOf}
+use Rattle.tables.specs.Bounds.{chartBounds}
+use Rattle.refusals.specs.Refuse.{refusalOf}
 use Rattle.tables.specs.declared.lent.Tables.{Tables}
 use Rattle.geometry_checks.specs.Operations.{geometryCauses}
 use Rattle.backfill.specs.Rows.{rowsOf, distsIn, marksIn}

@@ -15,7 +15,8 @@ use Rattle.answers.proofs.Told.{denied, refused-first, kept}
 use Rattle.lengths.specs.Line.{lineOf}
 use Rattle.lengths.proofs.Rows.{vertex-count}
 use Rattle.tables.specs.Pools.{Pools}
-use Rattle.tables.specs.Refuse.{chartBounds, refusalOf}
+use Rattle.tables.specs.Bounds.{chartBounds}
+use Rattle.refusals.specs.Refuse.{refusalOf}
 use Rattle.tables.specs.declared.lent.LegAsked.{LegAsked}
 use Rattle.tables.specs.declared.lent.Tables.{Tables}
 use Rattle.geometry_checks.specs.Operations.{legCauses}

@@ -9,7 +9,8 @@ use Rattle.ids.specs.declared.lookup.Found.the-variants.{At, Nothing}
 use Rattle.measure.specs.Answer.{Answer, refused, given}
 use Rattle.answers.specs.Answers.{unlessRefused, orShort, unlessKept}
 use Rattle.tables.specs.Pools.{Pools}
-use Rattle.tables.specs.Refuse.{chartBounds, refusalOf}
+use Rattle.tables.specs.Bounds.{chartBounds}
+use Rattle.refusals.specs.Refuse.{refusalOf}
 use Rattle.tables.specs.declared.lent.LegAsked.{LegAsked}
 use Rattle.tables.specs.declared.lent.Tables.{Tables}
 use Rattle.geometry_checks.specs.Operations.{legCauses}

@@ -6,7 +6,8 @@ use lib.Ieee.{Float}
 use lib.ListN.{length}
 use borrow.Author.Tests.{eq-eqb, ne-eqb}
 use Rattle.tables.specs.Pools.{pools}
-use Rattle.tables.specs.Refuse.{chartBounds, refusalOf}
+use Rattle.tables.specs.Bounds.{chartBounds}
+use Rattle.refusals.specs.Refuse.{refusalOf}
 use Rattle.record_faults.specs.Faults.{fold, start, stepOf}
 use Rattle.record_faults.specs.declared.Faults.{Faults}
 use Rattle.records.specs.declared.StopTime.{StopTime}

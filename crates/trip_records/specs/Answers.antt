@@ -6,7 +6,8 @@ use lib.Dec.{eqb}
 use lib.Ieee.{Float}
 use lib.ListN.{length, drop}
 use Rattle.tables.specs.Pools.{pools}
-use Rattle.tables.specs.Refuse.{chartBounds, refusalOf}
+use Rattle.tables.specs.Bounds.{chartBounds}
+use Rattle.refusals.specs.Refuse.{refusalOf}
 use Rattle.backfill.specs.Rows.{distsIn, marksIn}
 use Rattle.records.specs.Rows.{each}
 use Rattle.records.specs.Records.{fillRow}

@@ -1,17 +1,17 @@
 -- What is so of the updates and of the sailing where no cause of it is there. A number after `at` is a cause's place in the part's list.
--- `Rattle.tables.proofs.Facts` has what each kind of fact says, and `counted` for the part's columns and counts.
+-- `Rattle.refusals.proofs.Facts` has what each kind of fact says, and `counted` for the part's columns and counts.
 use Prim.Native.Nat.{ℕ, _<_}
 use mathlib.Core.Bool.{false}
 use lib.IntN.{pos, negsuc}
 use lib.ListN.{drop}
 use Rattle.ids.specs.Pool.{cellOf}
 use Rattle.tables.specs.Pools.{Pools}
-use Rattle.tables.specs.Refuse.{always, whereSet}
+use Rattle.refusals.specs.Refuse.{always, whereSet}
 use Rattle.tables.specs.declared.bounds.Bounds.{Bounds}
 use Rattle.tables.specs.declared.lent.Sailing.{Sailing}
 use Rattle.tables.specs.declared.lent.Updates.{Updates}
-use Rattle.tables.proofs.Passed.{Clear, clear-drop, clear-part}
-use Rattle.tables.proofs.Facts.{Between, moments, offsets, by-number, IdsHold, ids-hold}
+use Rattle.refusals.proofs.Passed.{Clear, clear-drop, clear-part}
+use Rattle.refusals.proofs.Facts.{Between, moments, offsets, by-number, IdsHold, ids-hold}
 use Rattle.update_rules.specs.Parts.{updatesCauses, arrivalsCauses, updateDeparturesCauses, sailingCauses}
 
 module _ (p : Pools) where

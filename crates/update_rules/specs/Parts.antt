@@ -2,10 +2,10 @@
 use mathlib.Core.Bool.{false}
 use mathlib.Core.List.{List, [], _∷_, _++_}
 use Rattle.column_order.specs.declared.order.Key.the-variants.{Word}
-use Rattle.tables.specs.Refuse.{Cause, always, whereSet, cause, idCauses}
+use Rattle.refusals.specs.Refuse.{Cause, always, whereSet, cause, idCauses}
 use Rattle.tables.specs.declared.bounds.Bounds.{Bounds}
-use Rattle.tables.specs.declared.cause.Pool.the-variants.{Bytes, Words, Times}
-use Rattle.tables.specs.declared.cause.Test.the-variants.{Column, Over, Unsorted, Moment, Offset}
+use Rattle.tables.specs.declared.mark.Pool.the-variants.{Bytes, Words, Times}
+use Rattle.faults.specs.declared.fault.Test.the-variants.{Column, Over, Unsorted, Moment, Offset}
 use Rattle.tables.specs.declared.lent.Sailing.{Sailing}
 use Rattle.tables.specs.declared.lent.Updates.{Updates}
 

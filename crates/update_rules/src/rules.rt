@@ -1,15 +1,15 @@
 // The rules of updates and of the sailing.
 use column_order::Key;
+use faults::Test;
 use ids::Span;
+use refusals::Rule;
 use tables::Bounds;
 use tables::Mark;
 use tables::Pool;
-use tables::Rule;
 use tables::Sailing;
-use tables::Test;
 use tables::Updates;
 ghost use mathlib.Core.Path.{_≡_};
-ghost use Rattle.tables.specs.Refuse.{causesIn};
+ghost use Rattle.refusals.specs.Refuse.{causesIn};
 ghost use Rattle.update_rules.specs.Parts.{updatesCauses, arrivalsCauses, updateDeparturesCauses, sailingCauses};
 
 // Each row has a value.

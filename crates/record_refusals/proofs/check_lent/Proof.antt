@@ -2,8 +2,8 @@ use borrow.Author.Needs.{needs}
 use mathlib.Core.Path.{_≡_, _∙_}
 use mathlib.Core.List.{[]}
 use Rattle.tables.specs.Pools.{pools}
-use Rattle.tables.specs.Refuse.{refusalOf}
-use Rattle.tables.proofs.Folds.{over, then-rules}
+use Rattle.refusals.specs.Refuse.{refusalOf}
+use Rattle.refusals.proofs.Folds.{over, then-rules}
 use Rattle.record_refusals.specs.Verdict.{lentCauses}
 use Rattle.record_refusals.proofs.check_lent.Statement.{statement}
 use Rattle.record_refusals.proofs.check_lent.Tie as tie

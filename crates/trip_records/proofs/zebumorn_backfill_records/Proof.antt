@@ -57,7 +57,8 @@ use Rattle.record_refusals.specs.declared.Lent.{Lent}
 use Rattle.record_refusals.proofs.Lent as Lt
 use Rattle.record_refusals.proofs.Lent.Laws as Lt′
 use Rattle.tables.specs.Pools.{pools}
-use Rattle.tables.specs.Refuse.{chartBounds, refusalOf}
+use Rattle.tables.specs.Bounds.{chartBounds}
+use Rattle.refusals.specs.Refuse.{refusalOf}
 use Rattle.record_faults.specs.Faults.{fold, start, stepOf}
 use Rattle.record_faults.specs.declared.Faults.{Faults}
 use Rattle.record_faults.proofs.Faults as S

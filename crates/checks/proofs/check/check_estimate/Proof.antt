@@ -1,4 +1,4 @@
-use Rattle.tables.proofs.Folds.{over, then, then-rules}
+use Rattle.refusals.proofs.Folds.{over, then, then-rules}
 use Rattle.checks.specs.Operations.{estimateCauses}
 use Rattle.checks.proofs.check.check_estimate.Statement.{statement}
 use Rattle.checks.proofs.check.check_estimate.Tie as tie

@@ -1,4 +1,4 @@
-use Rattle.tables.proofs.Folds.{over, then, then-rules}
+use Rattle.refusals.proofs.Folds.{over, then, then-rules}
 use Rattle.checks.specs.Operations.{serviceDayCauses}
 use Rattle.checks.proofs.check.check_service.Statement.{statement}
 use Rattle.checks.proofs.check.check_service.Tie as tie

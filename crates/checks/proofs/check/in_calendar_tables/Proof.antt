@@ -1,4 +1,4 @@
-use Rattle.tables.proofs.Folds.{over, then-rules}
+use Rattle.refusals.proofs.Folds.{over, then-rules}
 use Rattle.checks.specs.Operations.{calendarTablesCauses}
 use Rattle.checks.proofs.check.in_calendar_tables.Statement.{statement}
 use Rattle.checks.proofs.check.in_calendar_tables.Tie as tie

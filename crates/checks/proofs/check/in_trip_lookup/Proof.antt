@@ -1,4 +1,4 @@
-use Rattle.tables.proofs.Folds.{over, then-rules}
+use Rattle.refusals.proofs.Folds.{over, then-rules}
 use Rattle.checks.specs.Operations.{tripLookupCauses}
 use Rattle.checks.proofs.check.in_trip_lookup.Statement.{statement}
 use Rattle.checks.proofs.check.in_trip_lookup.Tie as tie

@@ -1,4 +1,4 @@
-use Rattle.tables.proofs.Folds.{over, then-rules}
+use Rattle.refusals.proofs.Folds.{over, then-rules}
 use Rattle.geometry_checks.specs.Operations.{geometryCauses}
 use Rattle.geometry_checks.proofs.check.check_geometry.Statement.{statement}
 use Rattle.geometry_checks.proofs.check.check_geometry.Tie as tie

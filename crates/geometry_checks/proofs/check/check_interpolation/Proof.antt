@@ -1,4 +1,4 @@
-use Rattle.tables.proofs.Folds.{over, then-rules}
+use Rattle.refusals.proofs.Folds.{over, then-rules}
 use Rattle.geometry_checks.specs.Operations.{interpolationCauses}
 use Rattle.geometry_checks.proofs.check.check_interpolation.Statement.{statement}
 use Rattle.geometry_checks.proofs.check.check_interpolation.Tie as tie

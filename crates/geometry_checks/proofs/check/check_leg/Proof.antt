@@ -1,4 +1,4 @@
-use Rattle.tables.proofs.Folds.{over, then, then-rules}
+use Rattle.refusals.proofs.Folds.{over, then, then-rules}
 use Rattle.geometry_checks.specs.Operations.{legCauses}
 use Rattle.geometry_checks.proofs.check.check_leg.Statement.{statement}
 use Rattle.geometry_checks.proofs.check.check_leg.Tie as tie

@@ -1,5 +1,5 @@
 -- `journeys::check::check_journey` meets its contract.
-use Rattle.tables.proofs.Folds.{over, then-rules}
+use Rattle.refusals.proofs.Folds.{over, then-rules}
 use Rattle.journey_rules.specs.Causes.{journeyCauses}
 use Rattle.journeys.proofs.check.check_journey.Statement.{statement}
 use Rattle.journeys.proofs.check.check_journey.Tie as tie

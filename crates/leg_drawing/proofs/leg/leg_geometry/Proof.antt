@@ -3,7 +3,7 @@ use borrow.Author.Needs.{needs}
 use native.Mathlib.Omega.{arith}
 use mathlib.Core.Path.{_∙_, sym}
 use Rattle.tables.specs.Pools.{pools}
-use Rattle.tables.specs.Refuse.{chartBounds}
+use Rattle.tables.specs.Bounds.{chartBounds}
 use Rattle.lookup_rules.proofs.Parts.{row-ids-good}
 use Rattle.geometry_checks.proofs.Operations.{leg-holds}
 use Rattle.point_columns.proofs.Rooms.{unequal, denied}

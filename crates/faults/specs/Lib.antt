@@ -1,0 +1,2 @@
+-- `Fault`: whether a fault is there.
+pub mod Fault

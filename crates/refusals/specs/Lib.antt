@@ -1,0 +1,2 @@
+-- `Refuse`: what makes a refusal, and the first that applies.
+pub mod Refuse
