@@ -3,11 +3,13 @@
 ghost use mathlib.Core.Path.{_≡_};
 ghost use Prim.Native.Nat.{_+_, _*_, _/_, _^_, _≤_, _<_};
 ghost use lib.Dec.{leb};
-ghost use Rattle.roots.specs.Root.{wholeRoot, Gap, builtOf, rootOf};
+ghost use Rattle.roots.specs.Root.{wholeRoot, builtOf, rootOf};
 use crate::cubics::constant;
 use crate::cubics::cubed;
 use crate::cubics::linear;
 use crate::cubics::squared;
+use std::num::wrapping_add_u64;
+use std::num::wrapping_sub_u64;
 
 // Whether g * g is at most m * 2^54, from the halves of g.
 fn square_le(g: u64, m: u64) -> bool
@@ -34,55 +36,14 @@ fn square_le(g: u64, m: u64) -> bool
     false
 }
 
-// Near the root of x = m / 2^53, or half of that where odd is 0: a cubic for the part in which x lies, then one
-// step of Newton's. Nothing is proved of it.
-fn guess(m: u64, odd: u64) -> f64
-    requires { ⌜ (m < 9007199254740992) × (odd < 2) ⌝ }
-{
-    let x = f64::from_bits((1020 + odd) * 4503599627370496 + m);
-    let i = odd * 16 + m / 281474976710656 % 16;
-    let s = constant(i) + linear(i) * x + x * x * (squared(i) + cubed(i) * x);
-    0.5 * s + 0.5 * x / s
-}
-
-// How far m * 2^52 is above q * q, with 2^55 added, from the halves of q; 0 where that is no small number.
-fn gap(q: u64, m: u64) -> u64
-    requires { ⌜ q ≤ 9007199254740992 ⌝ }
-    ensures { λ r. ⌜ Gap q m r ⌝ }
-{
-    let a = q / 134217728;
-    let b = q % 134217728;
-    let bb = b * b;
-    let c = 2 * a * b + bb / 134217728;
-    let hi = a * a + c / 134217728;
-    let top = m / 4 + 1;
-    if top < hi {
-        return 0;
-    }
-    if 2 < top - hi {
-        return 0;
-    }
-    (top - hi) * 18014398509481984 + m % 4 * 4503599627370496 + 18014398509481984
-        - (c % 134217728 * 134217728 + bb % 134217728)
-}
-
-// The whole number nearest to the root of m * 2^52, from a guess q: mostly q itself, or one beside it.
-fn nearest_root(q: u64, m: u64) -> u64
-    requires { ⌜ (q ≤ 9007199254740992) × (m < 18014398509481984) ⌝ }
-    ensures { λ r. ⌜ r ≡ (wholeRoot (m * 2 ^ 54) + 1) / 2 ⌝ }
-{
-    let t = gap(q, m);
-    if 36028797018963968 < t + q {
-        if t <= 36028797018963968 + q {
-            return q;
-        }
-        if t <= 36028797018963968 + 3 * q {
-            return q + 1;
-        }
-    } else if 36028797018963970 < t + 3 * q {
-        return q - 1;
-    }
-    (whole_root(2 * q, m) + 1) / 2
+// Near 2^90 / root w, for the w that the bits b of a float give: a cubic for the part in which it lies. Nothing is proved of it.
+fn inverse(b: u64) -> u64 {
+    let i = b / 70368744177664 % 128;
+    let t = b / 262144 % 268435456;
+    let tt = t * t / 268435456;
+    let ttt = tt * t / 268435456;
+    let more = wrapping_add_u64(constant(i), squared(i) as u64 * tt);
+    wrapping_sub_u64(more, linear(i) as u64 * t + cubed(i) as u64 * ttt)
 }
 
 // The root of m * 2^54, cut to a whole number, counted from g.
@@ -100,31 +61,50 @@ fn whole_root(from: u64, m: u64) -> u64
     g
 }
 
-// The whole number nearest to the root of m * (1 + odd) * 2^52: the digits of the guess, corrected. They are a
-// count of 2^-53 where the guess lies in 1/2..1.
-fn corrected(m: u64, odd: u64) -> u64
-    requires { ⌜ (m < 9007199254740992) × (odd < 2) ⌝ }
-    ensures { λ r. ⌜ r ≡ (wholeRoot (m * (1 + odd) * 2 ^ 54) + 1) / 2 ⌝ }
+// The whole number nearest to the root of w * 2^52, counted from a guess q.
+fn counted(q: u64, w: u64) -> u64
+    requires { ⌜ w < 18014398509481984 ⌝ }
+    ensures { λ r. ⌜ r ≡ (wholeRoot (w * 2 ^ 54) + 1) / 2 ⌝ }
 {
-    let s = guess(m, odd);
-    let w = m * (1 + odd);
-    if s >= 0.5 {
-        let b = f64::to_bits(s);
-        if 4598175219545276416 <= b {
-            if b <= 4607182418800017408 {
-                return nearest_root(b - 4598175219545276416, w);
-            }
-        }
+    if q <= 9007199254740992 {
+        return (whole_root(2 * q, w) + 1) / 2;
     }
-    (whole_root(9007199254740992, w) + 1) / 2
+    (whole_root(18014398509481984, w) + 1) / 2
 }
 
-// The root of m * 2^e / 2^1126.
-fn built(m: u64, e: u64) -> f64
+// The same from a guess y at 2^90 / root w. Of x = w * 2^8 the root is near g, and x - g * g, divided by twice the root, gives the digits f that follow.
+// For the number q = g * 2^22 + f that is w * 2^52 - q * q = 2^23 * (rest * 2^21 - g * f) - f * f, which is no more than q either way where q is the nearest:
+// that is compared, with halves rounded away, so that a q that is taken is right.
+fn nearest_root(w: u64, y: u64) -> u64
+    requires { ⌜ w < 18014398509481984 ⌝ }
+    ensures { λ r. ⌜ r ≡ (wholeRoot (w * 2 ^ 54) + 1) / 2 ⌝ }
+{
+    let x = w * 256;
+    let g = x / 1073741824 * (y / 4294967296) / 4294967296;
+    let gg = g * g;
+    if gg <= x {
+        let rest = x - gg;
+        if rest < 17000000000 {
+            let f = (rest * (y / 17179869184) + 279100000000) / 549755813888;
+            let up = rest * 2097152 + g / 2;
+            let down = g * f + f * f / 8388608;
+            if down < up {
+                if up - down < g {
+                    return g * 4194304 + f;
+                }
+            }
+            return counted(g * 4194304 + f, w);
+        }
+    }
+    counted(9007199254740992, w)
+}
+
+// The root of m * 2^e / 2^1126, from a guess y at 2^90 / root (m * (1 + e % 2)).
+fn built(m: u64, e: u64, y: u64) -> f64
     requires { ⌜ (4503599627370496 ≤ m) × (m < 9007199254740992) × (e < 2100) ⌝ }
     ensures { λ r. ⌜ r ≡ builtOf m e ⌝ }
 {
-    f64::from_bits((e / 2 + 485) * 4503599627370496 + corrected(m, e % 2))
+    f64::from_bits((e / 2 + 485) * 4503599627370496 + nearest_root(m * (1 + e % 2), y))
 }
 
 struct Norm {
@@ -156,9 +136,9 @@ pub fn root(x: f64) -> f64
             x
         } else if e == 0 {
             let n = raised(b);
-            built(n.m, n.e)
+            built(n.m, n.e, inverse(n.e * 4503599627370496 + n.m))
         } else {
-            built(b % 4503599627370496 + 4503599627370496, e + 51)
+            built(b % 4503599627370496 + 4503599627370496, e + 51, inverse(b))
         }
     } else if x == 0.0 {
         x

@@ -1,80 +1,113 @@
 use borrow.Author.Needs.{needs}
+use Prim.Native.Nat.{ℕ, _+_, _-_, _*_, _/_, _≤_, _<_}
 use native.Mathlib.Omega.{arith}
-use Rattle.roots.proofs.square_root.Near.{itself, above, below, root-small}
+use Rattle.roots.proofs.square_root.Near.{itself, lead-product, lead-small, square-small, rest-product, follow-small, cross-small, follow-square}
 use Rattle.roots.proofs.square_root.nearest_root.Statement.{statement}
 use Rattle.roots.proofs.square_root.nearest_root.Tie as tie
 
-gap-requires : tie.Need-gap-requires
-gap-requires c κs = search needs
+module _ (c : tie.Start) where
+  abbrev g : ℕ
+  g = c .args .w * 256 / 1073741824 * (c .args .y / 4294967296) / 4294967296
 
-add-if1 : tie.Need-add-if1
-add-if1 c = search needs
+  g-small : g ≤ 4294967295
+  g-small = lead-small (c .args .w) (c .args .y) (c .pre) (omega arith)
 
-add-if2 : tie.Need-add-if2
-add-if2 c = search needs
+module _ (c : tie.Then2) where
+  abbrev start : tie.Start
+  start = c .before .before
+
+  abbrev rest : ℕ
+  rest = start .args .w * 256 - g start * g start
+
+  abbrev f : ℕ
+  f = (rest * (start .args .y / 17179869184) + 279100000000) / 549755813888
+
+  f-small : f ≤ 33554431
+  f-small = follow-small rest (start .args .y) (c .if2 .taken) (omega arith)
+
+mul-x : tie.Need-mul-x
+mul-x c = search needs
+
+mul-g : tie.Need-mul-g
+mul-g c = omega (arith, lead-product (c .args .w) (c .args .y) (c .pre) (omega arith))
+
+mul-gg : tie.Need-mul-gg
+mul-gg c = omega (arith, square-small (g c) (g-small c))
+
+mul-f : tie.Need-mul-f
+mul-f c = omega (arith, rest-product (rest c) (start c .args .y) (c .if2 .taken) (omega arith))
+
+add-f : tie.Need-add-f
+add-f c = omega (arith, rest-product (rest c) (start c .args .y) (c .if2 .taken) (omega arith))
+
+mul-up : tie.Need-mul-up
+mul-up c = search needs
+
+add-up : tie.Need-add-up
+add-up c = omega (arith, c .if2 .taken, g-small (start c))
+
+mul-down : tie.Need-mul-down
+mul-down c = omega (arith, cross-small (g (start c)) (f c) (g-small (start c)) (f-small c))
+
+mul-down-2 : tie.Need-mul-down-2
+mul-down-2 c = omega (arith, follow-square (f c) (f-small c))
+
+add-down : tie.Need-add-down
+add-down c = omega (arith, cross-small (g (start c)) (f c) (g-small (start c)) (f-small c), follow-square (f c) (f-small c))
+
+sub-if4 : tie.Need-sub-if4
+sub-if4 c = search needs
+
+mul-result : tie.Need-mul-result
+mul-result c = omega (arith, g-small (start (c .before .before)))
+
+add-result : tie.Need-add-result
+add-result c = omega (arith, g-small (start (c .before .before)), f-small (c .before .before))
 
 returns : tie.Need-returns
 returns c =
-    let s = c .before .before .before in
-    itself _ _ (s .args .q) (c .before .before .gap .ensures) (s .pre .0) (c .before .if1 .taken) (c .if2 .taken)
+    let t = c .before .before in
+    itself (start t .args .w) (g (start t)) (f t) (t .before .if1 .taken) (c .before .if3 .taken) (c .if4 .taken)
 
-mul-if3 : tie.Need-mul-if3
-mul-if3 c = search needs
+mul-counted : tie.Need-mul-counted
+mul-counted c = omega (arith, g-small (start (c .before)))
 
-add-if3 : tie.Need-add-if3
-add-if3 c = search needs
+add-counted : tie.Need-add-counted
+add-counted c = omega (arith, g-small (start (c .before)), f-small (c .before))
 
-add-result : tie.Need-add-result
-add-result c = search needs
+counted-requires : tie.Need-counted-requires
+counted-requires c κs = search needs
 
 returns-2 : tie.Need-returns-2
-returns-2 c =
-    let s = c .before .before .before .before in
-    above _ _ (s .args .q) (c .before .before .before .gap .ensures) (c .before .if2 .left) (c .if3 .taken)
+returns-2 c = search needs
 
-mul-if4 : tie.Need-mul-if4
-mul-if4 c = search needs
-
-add-if4 : tie.Need-add-if4
-add-if4 c = search needs
-
-sub-result : tie.Need-sub-result
-sub-result c = search needs
+counted-requires-2 : tie.Need-counted-requires-2
+counted-requires-2 c κs = search needs
 
 returns-3 : tie.Need-returns-3
-returns-3 c =
-    let s = c .before .before .before in
-    below _ _ (s .args .q) (c .before .before .gap .ensures) (s .pre .0) (c .before .if1 .left) (c .if4 .taken)
-
-mul-whole-root : tie.Need-mul-whole-root
-mul-whole-root c = search needs
-
-whole-root-requires : tie.Need-whole-root-requires
-whole-root-requires c κs = search needs
-
-add-result-2 : tie.Need-add-result-2
-add-result-2 c = omega (arith, root-small _ (c .before .before .before .pre .1), c .whole-root .ensures)
-
-returns-4 : tie.Need-returns-4
-returns-4 c = search needs
+returns-3 c = search needs
 
 pub nearest-root-spec : {M : Type 1} → statement M
 nearest-root-spec =
     tie.close
     (tie.spec
-    gap-requires
-    add-if1
-    add-if2
-    returns
-    mul-if3
-    add-if3
+    mul-x
+    mul-g
+    mul-gg
+    mul-f
+    add-f
+    mul-up
+    add-up
+    mul-down
+    mul-down-2
+    add-down
+    sub-if4
+    mul-result
     add-result
+    returns
+    mul-counted
+    add-counted
+    counted-requires
     returns-2
-    mul-if4
-    add-if4
-    sub-result
-    returns-3
-    mul-whole-root
-    whole-root-requires
-    add-result-2
-    returns-4)
+    counted-requires-2
+    returns-3)

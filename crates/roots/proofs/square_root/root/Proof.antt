@@ -93,6 +93,15 @@ module _ (c : tie.Then3) where
 raised-requires : tie.Need-raised-requires
 raised-requires c κs = (value-pos (x (t1 c)) (b c) (2 ^ 1074) (pow-pos 1074) (above (t1 c)) (digits c), small c)
 
+mul-inverse : tie.Need-mul-inverse
+mul-inverse c = omega (arith, c .before .raised .ensures .2)
+
+add-inverse : tie.Need-add-inverse
+add-inverse c = let n = c .before .before .raised .ensures in omega (arith, n .1, n .2)
+
+inverse-requires : tie.Need-inverse-requires
+inverse-requires c κs = search needs
+
 built-requires : tie.Need-built-requires
 built-requires c κs = search needs
 
@@ -112,16 +121,19 @@ module _ (c : tie.Else3) where
 add-built-2 : tie.Need-add-built-2
 add-built-2 c = omega (arith, field-lt c)
 
+inverse-requires-2 : tie.Need-inverse-requires-2
+inverse-requires-2 c κs = search needs
+
 built-requires-2 : tie.Need-built-requires-2
-built-requires-2 c κs = omega (arith, field-lt c)
+built-requires-2 c κs = omega (arith, field-lt (c .before))
 
 returns : tie.Need-returns
 returns c = infinite (x (c .before)) (is (c .before) .1 .0 (c .if2 .taken))
 
 returns-2 : tie.Need-returns-2
 returns-2 c =
-    let n = c .before .raised in
-    let t = c .before .before in
+    let n = c .before .before .before .before .raised in
+    let t = c .before .before .before .before .before in
     c .built .ensures
     ∙ sym (root-built (x (t1 t)) (n .result .m) (n .result .e) (n .ensures .0) (n .ensures .1)
     (subst (λ (k : ℕ). HasValue (x (t1 t)) false k (2 ^ 1126)) (sym (n .ensures .3)) (larger (x (t1 t)) (b t) (2 ^ 1074) (2 ^ 52) (digits t))))
@@ -131,7 +143,7 @@ shift f h = omega arith
 
 returns-3 : tie.Need-returns-3
 returns-3 c =
-    let e = c .before in
+    let e = c .before .before in
     let m = b' e % 4503599627370496 + 4503599627370496 in
     let f = b' e / 4503599627370496 in
     c .built2 .ensures
@@ -148,4 +160,20 @@ returns-5 c = below (c .before .before .args .x) (c .before .if1 .left) (c .if4 
 
 pub root-spec : {M : Type 1} → statement M
 root-spec =
-    tie.close (tie.spec float-to-bits-b raised-requires built-requires add-built add-built-2 built-requires-2 returns returns-2 returns-3 returns-4 returns-5)
+    tie.close
+    (tie.spec
+    float-to-bits-b
+    raised-requires
+    mul-inverse
+    add-inverse
+    inverse-requires
+    built-requires
+    add-built
+    add-built-2
+    inverse-requires-2
+    built-requires-2
+    returns
+    returns-2
+    returns-3
+    returns-4
+    returns-5)
