@@ -1,9 +1,9 @@
 // The square root, correctly rounded, in 64-bit integers: a float guess that nothing is proved of,
 // made exact. The Rust calls the machine's own.
 ghost use mathlib.Core.Path.{_≡_};
-ghost use Prim.Native.Nat.{_+_, _*_, _/_, _^_, _≤_, _<_};
+ghost use Prim.Native.Nat.{_+_, _*_, _/_, _^_, _%_, _≤_, _<_};
 ghost use lib.Dec.{leb};
-ghost use Rattle.roots.specs.Root.{wholeRoot, builtOf, rootOf};
+ghost use Rattle.roots.specs.Root.{wholeRoot, Around, builtOf, rootOf};
 use crate::cubics::constant;
 use crate::cubics::cubed;
 use crate::cubics::linear;
@@ -46,30 +46,47 @@ fn inverse(b: u64) -> u64 {
     wrapping_sub_u64(more, linear(i) as u64 * t + cubed(i) as u64 * ttt)
 }
 
-// The root of m * 2^54, cut to a whole number, counted from g.
-fn whole_root(from: u64, m: u64) -> u64
-    requires { ⌜ (from ≤ 18014398509481984) × (m < 18014398509481984) ⌝ }
+// The root of m * 2^54, cut to a whole number, by halving what it lies between.
+fn whole_root(from: u64, to: u64, m: u64) -> u64
+    requires { ⌜ Around (m * 2 ^ 54) from to ⌝ }
     ensures { λ r. ⌜ r ≡ wholeRoot (m * 2 ^ 54) ⌝ }
 {
-    let mut g = from;
-    while !square_le(g, m) {
-        g -= 1;
+    let mut lo = from;
+    let mut hi = to;
+    while lo + 1 < hi {
+        let middle = (lo + hi) / 2;
+        if square_le(middle, m) {
+            lo = middle;
+            continue;
+        }
+        hi = middle;
     }
-    while square_le(g + 1, m) {
-        g += 1;
-    }
-    g
+    lo
 }
 
-// The whole number nearest to the root of w * 2^52, counted from a guess q.
-fn counted(q: u64, w: u64) -> u64
-    requires { ⌜ w < 18014398509481984 ⌝ }
-    ensures { λ r. ⌜ r ≡ (wholeRoot (w * 2 ^ 54) + 1) / 2 ⌝ }
+// The whole number nearest to the root of m * 2^52.
+fn searched(from: u64, to: u64, m: u64) -> u64
+    requires { ⌜ (m < 18014398509481984) × Around (m * 2 ^ 54) from to ⌝ }
+    ensures { λ r. ⌜ r ≡ (wholeRoot (m * 2 ^ 54) + 1) / 2 ⌝ }
 {
-    if q <= 9007199254740992 {
-        return (whole_root(2 * q, w) + 1) / 2;
+    (whole_root(from, to, m) + 1) / 2
+}
+
+// The same: beside a guess q, where it is there.
+fn beside(q: u64, m: u64) -> u64
+    requires { ⌜ m < 18014398509481984 ⌝ }
+    ensures { λ r. ⌜ r ≡ (wholeRoot (m * 2 ^ 54) + 1) / 2 ⌝ }
+{
+    if 2 <= q {
+        if q < 9007199254740992 {
+            if square_le(2 * q - 3, m) {
+                if !square_le(2 * q + 3, m) {
+                    return searched(2 * q - 3, 2 * q + 3, m);
+                }
+            }
+        }
     }
-    (whole_root(18014398509481984, w) + 1) / 2
+    searched(0, 18014398509481984, m)
 }
 
 // The same from a guess y at 2^90 / root w. Of x = w * 2^8 the root is near g, and x - g * g, divided by twice the root, gives the digits f that follow.
@@ -93,18 +110,18 @@ fn nearest_root(w: u64, y: u64) -> u64
                     return g * 4194304 + f;
                 }
             }
-            return counted(g * 4194304 + f, w);
+            return beside(g * 4194304 + f, w);
         }
     }
-    counted(9007199254740992, w)
+    searched(0, 18014398509481984, w)
 }
 
-// The root of m * 2^e / 2^1126, from a guess y at 2^90 / root (m * (1 + e % 2)).
-fn built(m: u64, e: u64, y: u64) -> f64
-    requires { ⌜ (4503599627370496 ≤ m) × (m < 9007199254740992) × (e < 2100) ⌝ }
+// The root of m * 2^e / 2^1126, from the digits q of that of m * (1 + e % 2).
+fn built(m: u64, e: u64, q: u64) -> f64
+    requires { ⌜ (4503599627370496 ≤ m) × (m < 9007199254740992) × (e < 2100) × (q ≡ (wholeRoot (m * (1 + e % 2) * 2 ^ 54) + 1) / 2) ⌝ }
     ensures { λ r. ⌜ r ≡ builtOf m e ⌝ }
 {
-    f64::from_bits((e / 2 + 485) * 4503599627370496 + nearest_root(m * (1 + e % 2), y))
+    f64::from_bits((e / 2 + 485) * 4503599627370496 + q)
 }
 
 struct Norm {
@@ -126,6 +143,16 @@ fn raised(t: u64) -> Norm
     Norm { m, e }
 }
 
+// The root of a value of full digits with the bits b.
+fn normal(b: u64) -> f64
+    requires { ⌜ (4503599627370496 ≤ b) × (b < 9218868437227405312) ⌝ }
+    ensures { λ r. ⌜ r ≡ builtOf (b % 4503599627370496 + 4503599627370496) (b / 4503599627370496 + 51) ⌝ }
+{
+    let m = b % 4503599627370496 + 4503599627370496;
+    let e = b / 4503599627370496 + 51;
+    built(m, e, nearest_root(m * (1 + e % 2), inverse(b)))
+}
+
 pub fn root(x: f64) -> f64
     ensures { λ r. ⌜ r ≡ rootOf x ⌝ }
 {
@@ -136,9 +163,10 @@ pub fn root(x: f64) -> f64
             x
         } else if e == 0 {
             let n = raised(b);
-            built(n.m, n.e, inverse(n.e * 4503599627370496 + n.m))
+            let w = n.m * (1 + n.e % 2);
+            built(n.m, n.e, searched(0, 18014398509481984, w))
         } else {
-            built(b % 4503599627370496 + 4503599627370496, e + 51, inverse(b))
+            normal(b)
         }
     } else if x == 0.0 {
         x

@@ -3,7 +3,7 @@ use mathlib.Core.Path.{_≡_}
 use Prim.Native.Nat.{ℕ, zero, suc, _+_, _-_, _*_, _/_, _%_, _^_, _≤_, _<_}
 use native.Mathlib.Nat.{mul-le-mul}
 use native.Mathlib.Omega.{arith}
-use Rattle.roots.specs.Root.{wholeRoot}
+use Rattle.roots.specs.Root.{wholeRoot, Around}
 use Rattle.roots.proofs.square_root.Whole.{whole-root-ge, whole-root-lt}
 
 -- between the squares of 2q - 1 and 2q + 1 the root of v is 2q - 1 or 2q, and q is the half of one more
@@ -20,6 +20,9 @@ itself w g f a b c = nearest w (g * 4194304 + f) (omega arith) (omega arith)
 
 pub root-small : (m : ℕ) → m < 18014398509481984 → wholeRoot (m * 2 ^ 54) < 18014398509481984
 root-small m h = whole-root-lt (m * 2 ^ 54) 18014398509481984 (omega arith)
+
+pub whole-span : (m : ℕ) → m < 18014398509481984 → Around (m * 2 ^ 54) 0 18014398509481984
+whole-span m h = (omega arith, omega arith, omega arith)
 
 -- m, or twice m
 pub scaled-small : (m b : ℕ) → m < 9007199254740992 → b < 2 → m * (1 + b) < 18014398509481984

@@ -1,7 +1,7 @@
 use borrow.Author.Needs.{needs}
 use Prim.Native.Nat.{ℕ, _+_, _-_, _*_, _/_, _≤_, _<_}
 use native.Mathlib.Omega.{arith}
-use Rattle.roots.proofs.square_root.Near.{itself, lead-product, lead-small, square-small, rest-product, follow-small, cross-small, follow-square}
+use Rattle.roots.proofs.square_root.Near.{itself, lead-product, lead-small, square-small, rest-product, follow-small, cross-small, follow-square, whole-span}
 use Rattle.roots.proofs.square_root.nearest_root.Statement.{statement}
 use Rattle.roots.proofs.square_root.nearest_root.Tie as tie
 
@@ -69,20 +69,20 @@ returns c =
     let t = c .before .before in
     itself (start t .args .w) (g (start t)) (f t) (t .before .if1 .taken) (c .before .if3 .taken) (c .if4 .taken)
 
-mul-counted : tie.Need-mul-counted
-mul-counted c = omega (arith, g-small (start (c .before)))
+mul-beside : tie.Need-mul-beside
+mul-beside c = omega (arith, g-small (start (c .before)))
 
-add-counted : tie.Need-add-counted
-add-counted c = omega (arith, g-small (start (c .before)), f-small (c .before))
+add-beside : tie.Need-add-beside
+add-beside c = omega (arith, g-small (start (c .before)), f-small (c .before))
 
-counted-requires : tie.Need-counted-requires
-counted-requires c κs = search needs
+beside-requires : tie.Need-beside-requires
+beside-requires c κs = search needs
 
 returns-2 : tie.Need-returns-2
 returns-2 c = search needs
 
-counted-requires-2 : tie.Need-counted-requires-2
-counted-requires-2 c κs = search needs
+searched-requires : tie.Need-searched-requires
+searched-requires c κs = (c .before .pre, whole-span _ (c .before .pre))
 
 returns-3 : tie.Need-returns-3
 returns-3 c = search needs
@@ -105,9 +105,9 @@ nearest-root-spec =
     mul-result
     add-result
     returns
-    mul-counted
-    add-counted
-    counted-requires
+    mul-beside
+    add-beside
+    beside-requires
     returns-2
-    counted-requires-2
+    searched-requires
     returns-3)

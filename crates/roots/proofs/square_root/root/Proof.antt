@@ -14,6 +14,7 @@ use lib.Ieee.Bits.{is-true}
 use lib.Ieee.Exact.{HasValue}
 use Rattle.roots.specs.Root.{rootOf}
 use Rattle.roots.proofs.square_root.Decode.{z, Read, read-of, above-no-nan, value-pos, larger}
+use Rattle.roots.proofs.square_root.Near.{scaled-small, whole-span}
 use Rattle.roots.proofs.square_root.Value.{root-built}
 use Rattle.roots.proofs.square_root.root.Statement.{statement}
 use Rattle.roots.proofs.square_root.root.Tie as tie
@@ -93,20 +94,22 @@ module _ (c : tie.Then3) where
 raised-requires : tie.Need-raised-requires
 raised-requires c κs = (value-pos (x (t1 c)) (b c) (2 ^ 1074) (pow-pos 1074) (above (t1 c)) (digits c), small c)
 
-mul-inverse : tie.Need-mul-inverse
-mul-inverse c = omega (arith, c .before .raised .ensures .2)
+add-w : tie.Need-add-w
+add-w c = search needs
 
-add-inverse : tie.Need-add-inverse
-add-inverse c = let n = c .before .before .raised .ensures in omega (arith, n .1, n .2)
+mul-w : tie.Need-mul-w
+mul-w c = let n = c .before .before .raised in omega (arith, scaled-small (n .result .m) (n .result .e % 2) (n .ensures .1) (omega arith))
 
-inverse-requires : tie.Need-inverse-requires
-inverse-requires c κs = search needs
+searched-requires : tie.Need-searched-requires
+searched-requires c κs =
+    let n = c .before .before .raised in
+    let h = scaled-small (n .result .m) (n .result .e % 2) (n .ensures .1) (omega arith) in
+    (h, whole-span _ h)
 
 built-requires : tie.Need-built-requires
-built-requires c κs = search needs
-
-add-built : tie.Need-add-built
-add-built c = search needs
+built-requires c κs =
+    let n = c .before .before .before .raised .ensures in
+    (n .0, n .1, omega (arith, n .2), c .searched .ensures)
 
 module _ (c : tie.Else3) where
   abbrev t1' : tie.Then1
@@ -118,14 +121,8 @@ module _ (c : tie.Else3) where
   field-lt : b' / 4503599627370496 < 2048
   field-lt = omega (arith, is t1' .0)
 
-add-built-2 : tie.Need-add-built-2
-add-built-2 c = omega (arith, field-lt c)
-
-inverse-requires-2 : tie.Need-inverse-requires-2
-inverse-requires-2 c κs = search needs
-
-built-requires-2 : tie.Need-built-requires-2
-built-requires-2 c κs = omega (arith, field-lt (c .before))
+normal-requires : tie.Need-normal-requires
+normal-requires c κs = (omega (arith, c .if3 .left), omega (arith, c .before .if2 .left, is (t1' c) .0))
 
 returns : tie.Need-returns
 returns c = infinite (x (c .before)) (is (c .before) .1 .0 (c .if2 .taken))
@@ -143,10 +140,10 @@ shift f h = omega arith
 
 returns-3 : tie.Need-returns-3
 returns-3 c =
-    let e = c .before .before in
+    let e = c .before in
     let m = b' e % 4503599627370496 + 4503599627370496 in
     let f = b' e / 4503599627370496 in
-    c .built2 .ensures
+    c .normal .ensures
     ∙ sym (root-built (x (t1' e)) m (f + 51) (omega arith) (omega arith)
     (subst (λ (k : ℕ). HasValue (x (t1' e)) false k (2 ^ 1126)) (mul-assoc m (2 ^ (f - 1)) (2 ^ 52) ∙ ap (λ (k : ℕ). m * k) (sym (pow-add 2 (f - 1) 52)) ∙ ap (λ (k : ℕ). m * 2 ^ k) (shift f (e .if3 .left)))
     (larger (x (t1' e)) (m * 2 ^ (f - 1)) (2 ^ 1074) (2 ^ 52) (is (t1' e) .1 .2 (e .if3 .left) (e .before .if2 .left)))))
@@ -164,14 +161,11 @@ root-spec =
     (tie.spec
     float-to-bits-b
     raised-requires
-    mul-inverse
-    add-inverse
-    inverse-requires
+    add-w
+    mul-w
+    searched-requires
     built-requires
-    add-built
-    add-built-2
-    inverse-requires-2
-    built-requires-2
+    normal-requires
     returns
     returns-2
     returns-3
