@@ -1,5 +1,5 @@
-// The square root, correctly rounded, in 64-bit integers: a float guess that nothing is proved of,
-// made exact. The Rust calls the machine's own.
+// The square root, correctly rounded, in 64-bit integers: a guess that nothing is proved of is taken where a comparison proves it right, mostly, and searched beside
+// where not. The Rust calls the machine's own.
 ghost use mathlib.Core.Path.{_≡_};
 ghost use Prim.Native.Nat.{_+_, _*_, _/_, _^_, _%_, _≤_, _<_};
 ghost use lib.Dec.{leb};
@@ -89,14 +89,29 @@ fn beside(q: u64, m: u64) -> u64
     searched(0, 18014398509481984, m)
 }
 
-// The same from a guess y at 2^90 / root w. Of x = w * 2^8 the root is near g, and x - g * g, divided by twice the root, gives the digits f that follow.
-// For the number q = g * 2^22 + f that is w * 2^52 - q * q = 2^23 * (rest * 2^21 - g * f) - f * f, which is no more than q either way where q is the nearest:
-// that is compared, with halves rounded away, so that a q that is taken is right.
-fn nearest_root(w: u64, y: u64) -> u64
-    requires { ⌜ w < 18014398509481984 ⌝ }
-    ensures { λ r. ⌜ r ≡ (wholeRoot (w * 2 ^ 54) + 1) / 2 ⌝ }
+// The root of m * 2^e / 2^1126, from the digits q of that of m * (1 + e % 2).
+fn built(m: u64, e: u64, q: u64) -> f64
+    requires { ⌜ (4503599627370496 ≤ m) × (m < 9007199254740992) × (e < 2100) × (q ≡ (wholeRoot (m * (1 + e % 2) * 2 ^ 54) + 1) / 2) ⌝ }
+    ensures { λ r. ⌜ r ≡ builtOf m e ⌝ }
 {
-    let x = w * 256;
+    f64::from_bits((e / 2 + 485) * 4503599627370496 + q)
+}
+
+// The root of m * 2^e / 2^1126, searched for beside q, the digits of a guess.
+fn slow(m: u64, e: u64, q: u64) -> f64
+    requires { ⌜ (4503599627370496 ≤ m) × (m < 9007199254740992) × (e < 2100) ⌝ }
+    ensures { λ r. ⌜ r ≡ builtOf m e ⌝ }
+{
+    built(m, e, beside(q, m * (1 + e % 2)))
+}
+
+// The same from a guess y at 2^90 / root w, for w = m * (1 + e % 2). Of x = w * 2^8 the root is near g, and x - g * g, divided by twice the root, gives the digits f that
+// follow. With q = g * 2^22 + f, w * 2^52 - q * q is 2^23 * (rest * 2^21 - g * f) - f * f, and q is the whole number nearest to the root of w * 2^52 where that is no more than q either way.
+fn quick(m: u64, e: u64, y: u64) -> f64
+    requires { ⌜ (4503599627370496 ≤ m) × (m < 9007199254740992) × (e < 2100) ⌝ }
+    ensures { λ r. ⌜ r ≡ builtOf m e ⌝ }
+{
+    let x = m * (1 + e % 2) * 256;
     let g = x / 1073741824 * (y / 4294967296) / 4294967296;
     let gg = g * g;
     if gg <= x {
@@ -107,21 +122,13 @@ fn nearest_root(w: u64, y: u64) -> u64
             let down = g * f + f * f / 8388608;
             if down < up {
                 if up - down < g {
-                    return g * 4194304 + f;
+                    return built(m, e, g * 4194304 + f);
                 }
             }
-            return beside(g * 4194304 + f, w);
+            return slow(m, e, g * 4194304 + f);
         }
     }
-    searched(0, 18014398509481984, w)
-}
-
-// The root of m * 2^e / 2^1126, from the digits q of that of m * (1 + e % 2).
-fn built(m: u64, e: u64, q: u64) -> f64
-    requires { ⌜ (4503599627370496 ≤ m) × (m < 9007199254740992) × (e < 2100) × (q ≡ (wholeRoot (m * (1 + e % 2) * 2 ^ 54) + 1) / 2) ⌝ }
-    ensures { λ r. ⌜ r ≡ builtOf m e ⌝ }
-{
-    f64::from_bits((e / 2 + 485) * 4503599627370496 + q)
+    slow(m, e, g)
 }
 
 struct Norm {
@@ -148,9 +155,11 @@ fn normal(b: u64) -> f64
     requires { ⌜ (4503599627370496 ≤ b) × (b < 9218868437227405312) ⌝ }
     ensures { λ r. ⌜ r ≡ builtOf (b % 4503599627370496 + 4503599627370496) (b / 4503599627370496 + 51) ⌝ }
 {
-    let m = b % 4503599627370496 + 4503599627370496;
-    let e = b / 4503599627370496 + 51;
-    built(m, e, nearest_root(m * (1 + e % 2), inverse(b)))
+    quick(
+        b % 4503599627370496 + 4503599627370496,
+        b / 4503599627370496 + 51,
+        inverse(b),
+    )
 }
 
 pub fn root(x: f64) -> f64
@@ -163,8 +172,7 @@ pub fn root(x: f64) -> f64
             x
         } else if e == 0 {
             let n = raised(b);
-            let w = n.m * (1 + n.e % 2);
-            built(n.m, n.e, searched(0, 18014398509481984, w))
+            slow(n.m, n.e, n.m)
         } else {
             normal(b)
         }

@@ -38,11 +38,14 @@ add-searched c = search needs
 
 searched-requires : tie.Need-searched-requires
 searched-requires c κs =
-    let t = c .before .before in
-    (t .before .before .before .before .pre
-    , (leb-true _ _ (sym (t .before .square-le .ensures) ∙ t .if3 .taken)
-    , leb-false _ _ (sym (c .before .square-le2 .ensures) ∙ not-true _ (c .if4 .taken))
-    , omega arith))
+    let t = c .before .before in (
+      t .before .before .before .before .pre,
+      (
+        leb-true _ _ (sym (t .before .square-le .ensures) ∙ t .if3 .taken),
+        leb-false _ _ (sym (c .before .square-le2 .ensures) ∙ not-true _ (c .if4 .taken)),
+        omega arith,
+      ),
+    )
 
 returns : tie.Need-returns
 returns c = search needs

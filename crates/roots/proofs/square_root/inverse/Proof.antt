@@ -70,10 +70,11 @@ mul-wrapping-sub-u64-2 c =
 add-wrapping-sub-u64 : tie.Need-add-wrapping-sub-u64
 add-wrapping-sub-u64 c =
     let b = c .before .before .before .before .before .args .b in
-    omega
-    (arith
-    , part-scaled (c .cubed .result) (ttt b) (c .cubed .ok) (ttt-small b)
-    , part-scaled (c .before .linear .result) (t b) (c .before .linear .ok) (t-small b))
+    omega (
+      arith,
+      part-scaled (c .cubed .result) (ttt b) (c .cubed .ok) (ttt-small b),
+      part-scaled (c .before .linear .result) (t b) (c .before .linear .ok) (t-small b),
+    )
 
 wrapping-sub-u64-requires : tie.Need-wrapping-sub-u64-requires
 wrapping-sub-u64-requires c κs = search needs

@@ -14,7 +14,6 @@ use lib.Ieee.Bits.{is-true}
 use lib.Ieee.Exact.{HasValue}
 use Rattle.roots.specs.Root.{rootOf}
 use Rattle.roots.proofs.square_root.Decode.{z, Read, read-of, above-no-nan, value-pos, larger}
-use Rattle.roots.proofs.square_root.Near.{scaled-small, whole-span}
 use Rattle.roots.proofs.square_root.Value.{root-built}
 use Rattle.roots.proofs.square_root.root.Statement.{statement}
 use Rattle.roots.proofs.square_root.root.Tie as tie
@@ -94,22 +93,8 @@ module _ (c : tie.Then3) where
 raised-requires : tie.Need-raised-requires
 raised-requires c κs = (value-pos (x (t1 c)) (b c) (2 ^ 1074) (pow-pos 1074) (above (t1 c)) (digits c), small c)
 
-add-w : tie.Need-add-w
-add-w c = search needs
-
-mul-w : tie.Need-mul-w
-mul-w c = let n = c .before .before .raised in omega (arith, scaled-small (n .result .m) (n .result .e % 2) (n .ensures .1) (omega arith))
-
-searched-requires : tie.Need-searched-requires
-searched-requires c κs =
-    let n = c .before .before .raised in
-    let h = scaled-small (n .result .m) (n .result .e % 2) (n .ensures .1) (omega arith) in
-    (h, whole-span _ h)
-
-built-requires : tie.Need-built-requires
-built-requires c κs =
-    let n = c .before .before .before .raised .ensures in
-    (n .0, n .1, omega (arith, n .2), c .searched .ensures)
+slow-requires : tie.Need-slow-requires
+slow-requires c κs = search needs
 
 module _ (c : tie.Else3) where
   abbrev t1' : tie.Then1
@@ -129,9 +114,9 @@ returns c = infinite (x (c .before)) (is (c .before) .1 .0 (c .if2 .taken))
 
 returns-2 : tie.Need-returns-2
 returns-2 c =
-    let n = c .before .before .before .before .raised in
-    let t = c .before .before .before .before .before in
-    c .built .ensures
+    let n = c .before .raised in
+    let t = c .before .before in
+    c .slow .ensures
     ∙ sym (root-built (x (t1 t)) (n .result .m) (n .result .e) (n .ensures .0) (n .ensures .1)
     (subst (λ (k : ℕ). HasValue (x (t1 t)) false k (2 ^ 1126)) (sym (n .ensures .3)) (larger (x (t1 t)) (b t) (2 ^ 1074) (2 ^ 52) (digits t))))
 
@@ -161,10 +146,7 @@ root-spec =
     (tie.spec
     float-to-bits-b
     raised-requires
-    add-w
-    mul-w
-    searched-requires
-    built-requires
+    slow-requires
     normal-requires
     returns
     returns-2
