@@ -1,7 +1,5 @@
 -- The square root as IEEE 754 has it: the value nearest to the exact root, a tie to the even one. Definitions only.
-use Prim.Native.Nat.{ℕ, zero, suc, _+_, _-_, _*_, _/_, _%_, _^_, _<_, compare}
-use mathlib.Core.Path.{_≡_}
-use mathlib.Core.Logic.{_⊎_}
+use Prim.Native.Nat.{ℕ, zero, suc, _+_, _-_, _*_, _/_, _%_, _^_, _≤_, _<_, compare}
 use mathlib.Core.Bool.{cond, false}
 use lib.Dec.{leb}
 use lib.Ieee.{Float, nan, inf, fin, Format, binary64, prec, low, up, down, size, nearest, units}
@@ -35,10 +33,9 @@ rootOf (inf s) = cond s nan (inf s)
 rootOf (fin s zero e) = fin s zero e
 rootOf (fin s (suc m) e) = cond s nan (roundRoot binary64 (suc m * up e) (down e))
 
--- r is m * 2 ^ 52 - q * q + 2 ^ 55, or 0
-pub record Gap (q m r : ℕ) : Type 0 where
-  pub small : r < 2 ^ 56
-  pub is : (r ≡ 0) ⊎ (r + q * q ≡ m * 2 ^ 52 + 2 ^ 55)
+-- the root of v is lo or more, and less than hi
+abbrev pub Around : ℕ → ℕ → ℕ → Type 0
+Around v lo hi = (lo * lo ≤ v) × (v < hi * hi) × (hi ≤ 18014398509481985)
 
 -- what the code builds for m * 2 ^ e / 2 ^ 1126 with an m of 53 digits
 unfoldable pub builtOf : ℕ → ℕ → Float

@@ -1,13 +1,15 @@
-// The square root, correctly rounded, in 64-bit integers: a float guess that nothing is proved of,
-// made exact. The Rust calls the machine's own.
+// The square root, correctly rounded, in 64-bit integers: a guess that nothing is proved of is taken where a comparison proves it right, mostly, and searched beside
+// where not. The Rust calls the machine's own.
 ghost use mathlib.Core.Path.{_≡_};
-ghost use Prim.Native.Nat.{_+_, _*_, _/_, _^_, _≤_, _<_};
+ghost use Prim.Native.Nat.{_+_, _*_, _/_, _^_, _%_, _≤_, _<_};
 ghost use lib.Dec.{leb};
-ghost use Rattle.roots.specs.Root.{wholeRoot, Gap, builtOf, rootOf};
+ghost use Rattle.roots.specs.Root.{wholeRoot, Around, builtOf, rootOf};
 use crate::cubics::constant;
 use crate::cubics::cubed;
 use crate::cubics::linear;
 use crate::cubics::squared;
+use std::num::wrapping_add_u64;
+use std::num::wrapping_sub_u64;
 
 // Whether g * g is at most m * 2^54, from the halves of g.
 fn square_le(g: u64, m: u64) -> bool
@@ -34,97 +36,99 @@ fn square_le(g: u64, m: u64) -> bool
     false
 }
 
-// Near the root of x = m / 2^53, or half of that where odd is 0: a cubic for the part in which x lies, then one
-// step of Newton's. Nothing is proved of it.
-fn guess(m: u64, odd: u64) -> f64
-    requires { ⌜ (m < 9007199254740992) × (odd < 2) ⌝ }
-{
-    let x = f64::from_bits((1020 + odd) * 4503599627370496 + m);
-    let i = odd * 16 + m / 281474976710656 % 16;
-    let s = constant(i) + linear(i) * x + x * x * (squared(i) + cubed(i) * x);
-    0.5 * s + 0.5 * x / s
+// Near 2^90 / root w, for the w that the bits b of a float give: a cubic for the part in which it lies. Nothing is proved of it.
+fn inverse(b: u64) -> u64 {
+    let i = b / 70368744177664 % 128;
+    let t = b / 262144 % 268435456;
+    let tt = t * t / 268435456;
+    let ttt = tt * t / 268435456;
+    let more = wrapping_add_u64(constant(i), squared(i) as u64 * tt);
+    wrapping_sub_u64(more, linear(i) as u64 * t + cubed(i) as u64 * ttt)
 }
 
-// How far m * 2^52 is above q * q, with 2^55 added, from the halves of q; 0 where that is no small number.
-fn gap(q: u64, m: u64) -> u64
-    requires { ⌜ q ≤ 9007199254740992 ⌝ }
-    ensures { λ r. ⌜ Gap q m r ⌝ }
-{
-    let a = q / 134217728;
-    let b = q % 134217728;
-    let bb = b * b;
-    let c = 2 * a * b + bb / 134217728;
-    let hi = a * a + c / 134217728;
-    let top = m / 4 + 1;
-    if top < hi {
-        return 0;
-    }
-    if 2 < top - hi {
-        return 0;
-    }
-    (top - hi) * 18014398509481984 + m % 4 * 4503599627370496 + 18014398509481984
-        - (c % 134217728 * 134217728 + bb % 134217728)
-}
-
-// The whole number nearest to the root of m * 2^52, from a guess q: mostly q itself, or one beside it.
-fn nearest_root(q: u64, m: u64) -> u64
-    requires { ⌜ (q ≤ 9007199254740992) × (m < 18014398509481984) ⌝ }
-    ensures { λ r. ⌜ r ≡ (wholeRoot (m * 2 ^ 54) + 1) / 2 ⌝ }
-{
-    let t = gap(q, m);
-    if 36028797018963968 < t + q {
-        if t <= 36028797018963968 + q {
-            return q;
-        }
-        if t <= 36028797018963968 + 3 * q {
-            return q + 1;
-        }
-    } else if 36028797018963970 < t + 3 * q {
-        return q - 1;
-    }
-    (whole_root(2 * q, m) + 1) / 2
-}
-
-// The root of m * 2^54, cut to a whole number, counted from g.
-fn whole_root(from: u64, m: u64) -> u64
-    requires { ⌜ (from ≤ 18014398509481984) × (m < 18014398509481984) ⌝ }
+// The root of m * 2^54, cut to a whole number, by halving what it lies between.
+fn whole_root(from: u64, to: u64, m: u64) -> u64
+    requires { ⌜ Around (m * 2 ^ 54) from to ⌝ }
     ensures { λ r. ⌜ r ≡ wholeRoot (m * 2 ^ 54) ⌝ }
 {
-    let mut g = from;
-    while !square_le(g, m) {
-        g -= 1;
+    let mut lo = from;
+    let mut hi = to;
+    while lo + 1 < hi {
+        let middle = (lo + hi) / 2;
+        if square_le(middle, m) {
+            lo = middle;
+            continue;
+        }
+        hi = middle;
     }
-    while square_le(g + 1, m) {
-        g += 1;
-    }
-    g
+    lo
 }
 
-// The whole number nearest to the root of m * (1 + odd) * 2^52: the digits of the guess, corrected. They are a
-// count of 2^-53 where the guess lies in 1/2..1.
-fn corrected(m: u64, odd: u64) -> u64
-    requires { ⌜ (m < 9007199254740992) × (odd < 2) ⌝ }
-    ensures { λ r. ⌜ r ≡ (wholeRoot (m * (1 + odd) * 2 ^ 54) + 1) / 2 ⌝ }
+// The whole number nearest to the root of m * 2^52.
+fn searched(from: u64, to: u64, m: u64) -> u64
+    requires { ⌜ (m < 18014398509481984) × Around (m * 2 ^ 54) from to ⌝ }
+    ensures { λ r. ⌜ r ≡ (wholeRoot (m * 2 ^ 54) + 1) / 2 ⌝ }
 {
-    let s = guess(m, odd);
-    let w = m * (1 + odd);
-    if s >= 0.5 {
-        let b = f64::to_bits(s);
-        if 4598175219545276416 <= b {
-            if b <= 4607182418800017408 {
-                return nearest_root(b - 4598175219545276416, w);
+    (whole_root(from, to, m) + 1) / 2
+}
+
+// The same: beside a guess q, where it is there.
+fn beside(q: u64, m: u64) -> u64
+    requires { ⌜ m < 18014398509481984 ⌝ }
+    ensures { λ r. ⌜ r ≡ (wholeRoot (m * 2 ^ 54) + 1) / 2 ⌝ }
+{
+    if 2 <= q {
+        if q < 9007199254740992 {
+            if square_le(2 * q - 3, m) {
+                if !square_le(2 * q + 3, m) {
+                    return searched(2 * q - 3, 2 * q + 3, m);
+                }
             }
         }
     }
-    (whole_root(9007199254740992, w) + 1) / 2
+    searched(0, 18014398509481984, m)
 }
 
-// The root of m * 2^e / 2^1126.
-fn built(m: u64, e: u64) -> f64
+// The root of m * 2^e / 2^1126, from the digits q of that of m * (1 + e % 2).
+fn built(m: u64, e: u64, q: u64) -> f64
+    requires { ⌜ (4503599627370496 ≤ m) × (m < 9007199254740992) × (e < 2100) × (q ≡ (wholeRoot (m * (1 + e % 2) * 2 ^ 54) + 1) / 2) ⌝ }
+    ensures { λ r. ⌜ r ≡ builtOf m e ⌝ }
+{
+    f64::from_bits((e / 2 + 485) * 4503599627370496 + q)
+}
+
+// The root of m * 2^e / 2^1126, searched for beside q, the digits of a guess.
+fn slow(m: u64, e: u64, q: u64) -> f64
     requires { ⌜ (4503599627370496 ≤ m) × (m < 9007199254740992) × (e < 2100) ⌝ }
     ensures { λ r. ⌜ r ≡ builtOf m e ⌝ }
 {
-    f64::from_bits((e / 2 + 485) * 4503599627370496 + corrected(m, e % 2))
+    built(m, e, beside(q, m * (1 + e % 2)))
+}
+
+// The same from a guess y at 2^90 / root w, for w = m * (1 + e % 2). Of x = w * 2^8 the root is near g, and x - g * g, divided by twice the root, gives the digits f that
+// follow. With q = g * 2^22 + f, w * 2^52 - q * q is 2^23 * (rest * 2^21 - g * f) - f * f, and q is the whole number nearest to the root of w * 2^52 where that is no more than q either way.
+fn quick(m: u64, e: u64, y: u64) -> f64
+    requires { ⌜ (4503599627370496 ≤ m) × (m < 9007199254740992) × (e < 2100) ⌝ }
+    ensures { λ r. ⌜ r ≡ builtOf m e ⌝ }
+{
+    let x = m * (1 + e % 2) * 256;
+    let g = x / 1073741824 * (y / 4294967296) / 4294967296;
+    let gg = g * g;
+    if gg <= x {
+        let rest = x - gg;
+        if rest < 17000000000 {
+            let f = (rest * (y / 17179869184) + 279100000000) / 549755813888;
+            let up = rest * 2097152 + g / 2;
+            let down = g * f + f * f / 8388608;
+            if down < up {
+                if up - down < g {
+                    return built(m, e, g * 4194304 + f);
+                }
+            }
+            return slow(m, e, g * 4194304 + f);
+        }
+    }
+    slow(m, e, g)
 }
 
 struct Norm {
@@ -146,6 +150,18 @@ fn raised(t: u64) -> Norm
     Norm { m, e }
 }
 
+// The root of a value of full digits with the bits b.
+fn normal(b: u64) -> f64
+    requires { ⌜ (4503599627370496 ≤ b) × (b < 9218868437227405312) ⌝ }
+    ensures { λ r. ⌜ r ≡ builtOf (b % 4503599627370496 + 4503599627370496) (b / 4503599627370496 + 51) ⌝ }
+{
+    quick(
+        b % 4503599627370496 + 4503599627370496,
+        b / 4503599627370496 + 51,
+        inverse(b),
+    )
+}
+
 pub fn root(x: f64) -> f64
     ensures { λ r. ⌜ r ≡ rootOf x ⌝ }
 {
@@ -156,9 +172,9 @@ pub fn root(x: f64) -> f64
             x
         } else if e == 0 {
             let n = raised(b);
-            built(n.m, n.e)
+            slow(n.m, n.e, n.m)
         } else {
-            built(b % 4503599627370496 + 4503599627370496, e + 51)
+            normal(b)
         }
     } else if x == 0.0 {
         x

@@ -10,25 +10,14 @@ add-result c = search needs
 mul-result : tie.Need-mul-result
 mul-result c = search needs
 
-corrected-requires : tie.Need-corrected-requires
-corrected-requires c κs = search needs
-
 add-result-2 : tie.Need-add-result-2
-add-result-2 c =
-    let s = c .before in
-    omega (arith, built-small (s .args .m) (s .pre .0) (s .pre .1) (s .args .e) _ (c .corrected .ensures) (s .pre .2))
+add-result-2 c = omega (arith, built-small (c .args .m) (c .pre .0) (c .pre .1) (c .args .e) _ (c .pre .3) (c .pre .2))
 
 float-from-bits-result : tie.Need-float-from-bits-result
-float-from-bits-result c =
-    let s = c .before in
-    no-nan (s .args .m) (s .pre .0) (s .pre .1) (s .args .e) _ (c .corrected .ensures) (s .pre .2)
+float-from-bits-result c = no-nan (c .args .m) (c .pre .0) (c .pre .1) (c .args .e) _ (c .pre .3) (c .pre .2)
 
 returns : tie.Need-returns
-returns c =
-    let s = c .before in
-    is-built (s .args .m) (s .pre .0) (s .pre .1) (s .args .e) _ (c .corrected .ensures) (s .pre .2)
+returns c = is-built (c .args .m) (c .pre .0) (c .pre .1) (c .args .e) _ (c .pre .3) (c .pre .2)
 
 pub built-spec : {M : Type 1} → statement M
-built-spec =
-    tie.close
-    (tie.spec add-result mul-result corrected-requires add-result-2 float-from-bits-result returns)
+built-spec = tie.close (tie.spec add-result mul-result add-result-2 float-from-bits-result returns)

@@ -93,11 +93,8 @@ module _ (c : tie.Then3) where
 raised-requires : tie.Need-raised-requires
 raised-requires c κs = (value-pos (x (t1 c)) (b c) (2 ^ 1074) (pow-pos 1074) (above (t1 c)) (digits c), small c)
 
-built-requires : tie.Need-built-requires
-built-requires c κs = search needs
-
-add-built : tie.Need-add-built
-add-built c = search needs
+slow-requires : tie.Need-slow-requires
+slow-requires c κs = search needs
 
 module _ (c : tie.Else3) where
   abbrev t1' : tie.Then1
@@ -109,11 +106,8 @@ module _ (c : tie.Else3) where
   field-lt : b' / 4503599627370496 < 2048
   field-lt = omega (arith, is t1' .0)
 
-add-built-2 : tie.Need-add-built-2
-add-built-2 c = omega (arith, field-lt c)
-
-built-requires-2 : tie.Need-built-requires-2
-built-requires-2 c κs = omega (arith, field-lt c)
+normal-requires : tie.Need-normal-requires
+normal-requires c κs = (omega (arith, c .if3 .left), omega (arith, c .before .if2 .left, is (t1' c) .0))
 
 returns : tie.Need-returns
 returns c = infinite (x (c .before)) (is (c .before) .1 .0 (c .if2 .taken))
@@ -122,7 +116,7 @@ returns-2 : tie.Need-returns-2
 returns-2 c =
     let n = c .before .raised in
     let t = c .before .before in
-    c .built .ensures
+    c .slow .ensures
     ∙ sym (root-built (x (t1 t)) (n .result .m) (n .result .e) (n .ensures .0) (n .ensures .1)
     (subst (λ (k : ℕ). HasValue (x (t1 t)) false k (2 ^ 1126)) (sym (n .ensures .3)) (larger (x (t1 t)) (b t) (2 ^ 1074) (2 ^ 52) (digits t))))
 
@@ -134,7 +128,7 @@ returns-3 c =
     let e = c .before in
     let m = b' e % 4503599627370496 + 4503599627370496 in
     let f = b' e / 4503599627370496 in
-    c .built2 .ensures
+    c .normal .ensures
     ∙ sym (root-built (x (t1' e)) m (f + 51) (omega arith) (omega arith)
     (subst (λ (k : ℕ). HasValue (x (t1' e)) false k (2 ^ 1126)) (mul-assoc m (2 ^ (f - 1)) (2 ^ 52) ∙ ap (λ (k : ℕ). m * k) (sym (pow-add 2 (f - 1) 52)) ∙ ap (λ (k : ℕ). m * 2 ^ k) (shift f (e .if3 .left)))
     (larger (x (t1' e)) (m * 2 ^ (f - 1)) (2 ^ 1074) (2 ^ 52) (is (t1' e) .1 .2 (e .if3 .left) (e .before .if2 .left)))))
@@ -148,4 +142,14 @@ returns-5 c = below (c .before .before .args .x) (c .before .if1 .left) (c .if4 
 
 pub root-spec : {M : Type 1} → statement M
 root-spec =
-    tie.close (tie.spec float-to-bits-b raised-requires built-requires add-built add-built-2 built-requires-2 returns returns-2 returns-3 returns-4 returns-5)
+    tie.close
+    (tie.spec
+    float-to-bits-b
+    raised-requires
+    slow-requires
+    normal-requires
+    returns
+    returns-2
+    returns-3
+    returns-4
+    returns-5)

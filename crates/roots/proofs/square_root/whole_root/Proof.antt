@@ -1,75 +1,76 @@
-use mathlib.Core.Path.{sym, _∙_}
-use Prim.Native.Nat.{ℕ, zero, suc, _-_, _*_, _^_, _≤_, _<_}
+use mathlib.Core.Path.{_≡_, sym, _∙_}
+use Prim.Native.Nat.{ℕ, _+_, _-_, _*_, _^_, _≤_, _<_}
 use native.Mathlib.Omega.{arith}
-use borrow.Author.Tests.{leb-true, leb-false, not-true, not-false}
+use borrow.Author.Tests.{leb-true, leb-false}
+use Rattle.roots.specs.Root.{wholeRoot, Around}
 use Rattle.roots.proofs.square_root.Whole.{square-lt-back, whole-root-unique}
 use Rattle.roots.proofs.square_root.whole_root.Statement.{statement}
 use Rattle.roots.proofs.square_root.whole_root.Tie as tie
 
 abbrev Inv-loop : tie.InvT-loop
-Inv-loop from m g₀ g = g ≤ 18014398509481984
+Inv-loop from to m lo₀ hi₀ lo hi = Around (m * 2 ^ 54) lo hi
 
 abbrev μ-loop : tie.MeasureT-loop
-μ-loop from m g₀ g = g
+μ-loop from to m lo₀ hi₀ lo hi = hi - lo
 
-abbrev Inv-loop2 : tie.InvT-loop2
-Inv-loop2 from m g₀ g = g * g ≤ m * 2 ^ 54
+ordered : (v lo hi : ℕ) → Around v lo hi → lo < hi
+ordered v lo hi h = square-lt-back lo hi (between (lo * lo) v (hi * hi) (h .0) (h .1))
+  where
+    between : (a b c : ℕ) → a ≤ b → b < c → a < c
+    between a b c p q = omega arith
 
-abbrev μ-loop2 : tie.MeasureT-loop2
-μ-loop2 from m g₀ g = 18014398509481984 - g
+next : (v lo hi : ℕ) → Around v lo hi → hi ≤ lo + 1 → v < (lo + 1) * (lo + 1)
+next v lo hi h k = go hi (tight (ordered v lo hi h)) (h .1)
+  where
+    tight : lo < hi → hi ≡ lo + 1
+    tight p = omega arith
 
-above : (g v : ℕ) → v < g * g → 0 < g
-above zero v h = absurd (omega arith)
-above (suc g) v h = omega arith
+    go : (t : ℕ) → t ≡ lo + 1 → v < t * t → v < (lo + 1) * (lo + 1)
+    go t e p = rw e at p
 
-under : (g m : ℕ) → m < 18014398509481984 → g * g ≤ m * 2 ^ 54 → g < 18014398509481984
-under g m h k = square-lt-back g 18014398509481984 (omega arith)
+loop-holds : tie.Need-loop-holds Inv-loop μ-loop
+loop-holds c = c .pre
 
-module _ (c : tie.Then1 Inv-loop μ-loop Inv-loop2 μ-loop2) where
-  over : c .before .before .before .args .m * 2 ^ 54 < c .before .before .loop .g * c .before .before .loop .g
-  over = leb-false _ _ (sym (c .before .square-le .ensures) ∙ not-true _ (c .if1 .taken))
+add-loop : tie.Need-add-loop Inv-loop μ-loop
+add-loop c = omega (arith, ordered _ _ _ (c .loop .inv), c .loop .inv .2)
 
-loop-holds : tie.Need-loop-holds Inv-loop μ-loop Inv-loop2 μ-loop2
-loop-holds c = c .pre .0
+add-middle : tie.Need-add-middle Inv-loop μ-loop
+add-middle c = omega (arith, c .before .loop .inv .2)
 
-square-le-requires : tie.Need-square-le-requires Inv-loop μ-loop Inv-loop2 μ-loop2
-square-le-requires c κs = omega arith
+square-le-requires : tie.Need-square-le-requires Inv-loop μ-loop
+square-le-requires c κs = omega (arith, c .before .loop .inv .2)
 
-sub-g : tie.Need-sub-g Inv-loop μ-loop Inv-loop2 μ-loop2
-sub-g c = above _ _ (over c)
+loop-less : tie.Need-loop-less Inv-loop μ-loop
+loop-less c = omega arith
 
-loop-less : tie.Need-loop-less Inv-loop μ-loop Inv-loop2 μ-loop2
-loop-less c = omega (arith, above _ _ (over c))
+loop-again : tie.Need-loop-again Inv-loop μ-loop
+loop-again c =
+    let i = c .before .before .before .loop .inv in
+    (leb-true _ _ (sym (c .before .square-le .ensures) ∙ c .if1 .taken), i .1, i .2)
 
-loop-again : tie.Need-loop-again Inv-loop μ-loop Inv-loop2 μ-loop2
-loop-again c = omega arith
+loop-less-2 : tie.Need-loop-less-2 Inv-loop μ-loop
+loop-less-2 c = omega arith
 
-loop2-holds : tie.Need-loop2-holds Inv-loop μ-loop Inv-loop2 μ-loop2
-loop2-holds c = leb-true _ _ (sym (c .before .square-le .ensures) ∙ not-false _ (c .if1 .left))
+loop-again-2 : tie.Need-loop-again-2 Inv-loop μ-loop
+loop-again-2 c =
+    let i = c .before .before .before .loop .inv in
+    (i .0, leb-false _ _ (sym (c .before .square-le .ensures) ∙ c .if1 .left), omega (arith, i .2))
 
-add-square-le : tie.Need-add-square-le Inv-loop μ-loop Inv-loop2 μ-loop2
-add-square-le c = omega (arith, under (c .loop2 .g) (c .before .before .before .before .args .m) (c .before .before .before .before .pre .1) (c .loop2 .inv))
-
-square-le-requires-2 : tie.Need-square-le-requires-2 Inv-loop μ-loop Inv-loop2 μ-loop2
-square-le-requires-2 c κs = omega (arith, under (c .loop2 .g) (c .before .before .before .before .args .m) (c .before .before .before .before .pre .1) (c .loop2 .inv))
-
-module _ (c : tie.At-loop2 Inv-loop μ-loop Inv-loop2 μ-loop2) where
-  g-lt : c .loop2 .g < 18014398509481984
-  g-lt = under (c .loop2 .g) (c .before .before .before .before .args .m) (c .before .before .before .before .pre .1) (c .loop2 .inv)
-
-add-g : tie.Need-add-g Inv-loop μ-loop Inv-loop2 μ-loop2
-add-g c = omega (arith, g-lt (c .before .before))
-
-loop2-less : tie.Need-loop2-less Inv-loop μ-loop Inv-loop2 μ-loop2
-loop2-less c = omega (arith, g-lt (c .before .before))
-
-loop2-again : tie.Need-loop2-again Inv-loop μ-loop Inv-loop2 μ-loop2
-loop2-again c = leb-true _ _ (sym (c .before .square-le2 .ensures) ∙ c .if2 .taken)
-
-returns : tie.Need-returns Inv-loop μ-loop Inv-loop2 μ-loop2
-returns c = sym (whole-root-unique _ _ (c .before .before .loop2 .inv, leb-false _ _ (sym (c .before .square-le2 .ensures) ∙ c .if2 .left)))
+returns : tie.Need-returns Inv-loop μ-loop
+returns c = let i = c .before .loop .inv in sym (whole-root-unique _ _ (i .0, next _ _ _ i (c .loop-test .left)))
 
 pub whole-root-spec : {M : Type 1} → statement M
 whole-root-spec =
     tie.close
-    (tie.spec Inv-loop μ-loop Inv-loop2 μ-loop2 loop-holds square-le-requires sub-g loop-less loop-again loop2-holds add-square-le square-le-requires-2 add-g loop2-less loop2-again returns)
+    (tie.spec
+    Inv-loop
+    μ-loop
+    loop-holds
+    add-loop
+    add-middle
+    square-le-requires
+    loop-less
+    loop-again
+    loop-less-2
+    loop-again-2
+    returns)
