@@ -1,6 +1,6 @@
 -- The whole number nearest to the root of w * 2 ^ 52, half of one more than the root of w * 2 ^ 54, and the sizes that its computation meets. Assumes nothing.
 use mathlib.Core.Path.{_≡_}
-use Prim.Native.Nat.{ℕ, zero, suc, _+_, _-_, _*_, _/_, _%_, _^_, _≤_, _<_}
+use Prim.Native.Nat.{ℕ, zero, suc, _+_, _-_, _*_, _/_, _^_, _≤_, _<_}
 use native.Mathlib.Nat.{mul-le-mul}
 use native.Mathlib.Omega.{arith}
 use Rattle.roots.specs.Root.{wholeRoot, Around}

@@ -2,7 +2,7 @@ use mathlib.Core.Path.{_≡_, sym, _∙_}
 use Prim.Native.Nat.{ℕ, _+_, _-_, _*_, _^_, _≤_, _<_}
 use native.Mathlib.Omega.{arith}
 use borrow.Author.Tests.{leb-true, leb-false}
-use Rattle.roots.specs.Root.{wholeRoot, Around}
+use Rattle.roots.specs.Root.{Around}
 use Rattle.roots.proofs.square_root.Whole.{square-lt-back, whole-root-unique}
 use Rattle.roots.proofs.square_root.whole_root.Statement.{statement}
 use Rattle.roots.proofs.square_root.whole_root.Tie as tie
