@@ -29,11 +29,11 @@ pub fn print_id(s: &[u8]) {
 }
 
 fn print_byte(b: u8) {
-    if case_tokens::is_plain(b) {
+    if case_ids::is_plain(b) {
         let one = [b];
         io::write_all(STDOUT_FILENO, &one);
     } else {
-        let three = case_tokens::escape(b);
+        let three = case_digits::escape(b);
         io::write_all(STDOUT_FILENO, &three);
     }
 }

@@ -1,9 +1,9 @@
 // Dates, services and matching.
+use case_numbers::Signed;
 use case_tables::Case;
 use case_tables::layout;
 use case_tables::put;
 use case_tables::span;
-use case_tokens::Signed;
 use case_tokens::field;
 use days::ReadDate;
 use ids::IdColumn;
