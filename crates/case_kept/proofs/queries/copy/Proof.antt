@@ -1,10 +1,10 @@
--- `cases::text::copy` is safe: it writes no byte past the end.
+-- `case_kept::queries::copy` is safe: it writes no byte past the end.
 use Prim.Native.Nat.{_≤_, _+_, _-_}
 use mathlib.Core.Path.{_≡_}
 use lib.ListN.{length}
 use borrow.Author.Needs.{needs}
-use Rattle.cases.proofs.text.copy.Statement.{statement}
-use Rattle.cases.proofs.text.copy.Tie as tie
+use Rattle.case_kept.proofs.queries.copy.Statement.{statement}
+use Rattle.case_kept.proofs.queries.copy.Tie as tie
 
 abbrev Inv-loop : tie.InvT-loop
 Inv-loop s to₀ at i₀ to i = (i ≤ length s) × (length to ≡ length to₀) × (at + length s ≤ length to₀)
