@@ -1,7 +1,7 @@
 use borrow.Author.Needs.{needs}
 use mathlib.Core.Path.{_∙_, sym}
-use Rattle.refs.proofs.key.raw.Statement.{statement}
-use Rattle.refs.proofs.key.raw.Tie as tie
+use Rattle.key_parts.proofs.key.raw.Statement.{statement}
+use Rattle.key_parts.proofs.key.raw.Tie as tie
 use Rattle.ids.proofs.begins.Reads as begins-reads
 use Rattle.parts.proofs.from.Reads as from-reads
 

@@ -1,6 +1,6 @@
 use borrow.Author.Needs.{needs}
-use Rattle.refs.proofs.key.without_locs.Statement.{statement}
-use Rattle.refs.proofs.key.without_locs.Tie as tie
+use Rattle.key_parts.proofs.key.without_locs.Statement.{statement}
+use Rattle.key_parts.proofs.key.without_locs.Tie as tie
 use Rattle.ids.proofs.trimmed_text.Reads as trimmed-text-reads
 use Rattle.parts.proofs.first.Reads as first-reads
 

@@ -1,9 +1,9 @@
 use borrow.Author.Needs.{needs}
-use Rattle.refs.specs.Refs.{tailOf}
-use Rattle.refs.proofs.key.tail.Statement.{statement}
-use Rattle.refs.proofs.key.tail.Tie as tie
-use Rattle.refs.proofs.key.without_colons.Reads as without-colons-reads
-use Rattle.refs.proofs.key.without_loc.Reads as without-loc-reads
+use Rattle.key_parts.specs.Keys.{tailOf}
+use Rattle.key_parts.proofs.key.tail.Statement.{statement}
+use Rattle.key_parts.proofs.key.tail.Tie as tie
+use Rattle.key_parts.proofs.key.without_colons.Reads as without-colons-reads
+use Rattle.key_parts.proofs.key.without_loc.Reads as without-loc-reads
 use Rattle.parts.proofs.after_last.Reads as after-last-reads
 use Rattle.parts.proofs.if_long.Reads as if-long-reads
 

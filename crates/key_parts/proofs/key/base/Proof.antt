@@ -1,7 +1,7 @@
 use borrow.Author.Needs.{needs}
 use mathlib.Core.Path.{_∙_, sym}
-use Rattle.refs.proofs.key.base.Statement.{statement}
-use Rattle.refs.proofs.key.base.Tie as tie
+use Rattle.key_parts.proofs.key.base.Statement.{statement}
+use Rattle.key_parts.proofs.key.base.Tie as tie
 use Rattle.ids.proofs.last_of.Reads as last-of-reads
 use Rattle.parts.proofs.first.Reads as first-reads
 

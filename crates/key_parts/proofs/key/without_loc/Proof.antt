@@ -2,9 +2,9 @@ use borrow.Author.Needs.{needs}
 use mathlib.Core.Path.{_∙_, sym}
 use native.Mathlib.Omega.{arith}
 use Rattle.ids.proofs.Trims.{suffix-fits}
-use Rattle.refs.specs.Words.{loc}
-use Rattle.refs.proofs.key.without_loc.Statement.{statement}
-use Rattle.refs.proofs.key.without_loc.Tie as tie
+use Rattle.key_parts.specs.Words.{loc}
+use Rattle.key_parts.proofs.key.without_loc.Statement.{statement}
+use Rattle.key_parts.proofs.key.without_loc.Tie as tie
 use Rattle.ids.proofs.ends_with.Reads as ends-with-reads
 use Rattle.parts.proofs.first.Reads as first-reads
 

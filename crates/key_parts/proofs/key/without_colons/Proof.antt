@@ -1,6 +1,6 @@
 use borrow.Author.Needs.{needs}
-use Rattle.refs.proofs.key.without_colons.Statement.{statement}
-use Rattle.refs.proofs.key.without_colons.Tie as tie
+use Rattle.key_parts.proofs.key.without_colons.Statement.{statement}
+use Rattle.key_parts.proofs.key.without_colons.Tie as tie
 use Rattle.ids.proofs.trimmed.Reads as trimmed-reads
 use Rattle.parts.proofs.first.Reads as first-reads
 

@@ -5,7 +5,7 @@ use parts::first;
 use parts::from;
 use parts::if_long;
 ghost use mathlib.Core.Path.{_≡_};
-ghost use Rattle.refs.specs.Refs.{baseOf, rawOf, withoutLoc, withoutColons, withoutLocs, tailOf};
+ghost use Rattle.key_parts.specs.Keys.{baseOf, rawOf, withoutLoc, withoutColons, withoutLocs, tailOf};
 
 // A trip key before its last '@', or all of it.
 pub fn base<'a>(key: &'a [u8]) -> &'a [u8]
