@@ -9,7 +9,7 @@ use Rattle.ids.specs.Pool.{cellOf, idOf}
 use Rattle.ids.specs.First.{isAt, orAt}
 use Rattle.ids.specs.declared.lookup.Found.{Found}
 use Rattle.ids.specs.declared.lookup.Found.the-variants.{Nothing}
-use Rattle.refs.specs.Refs.{baseOf}
+use Rattle.key_parts.specs.Keys.{baseOf}
 use Rattle.tables.specs.declared.lent.Tables.{Tables}
 use Rattle.stop_ids.specs.Stops.{Known, stopOf}
 use Rattle.update_rows.specs.Rows.{passing}

@@ -29,7 +29,7 @@ pub fn update_stop(bytes: &[u8], words: &[u32], v: Reported, k: usize) -> Found
     let names = v.updates.stop;
     let sequences = v.updates.sequence;
     let feed = ids::id(bytes, words, feeds, 0);
-    let base = refs::base(ids::id(bytes, words, keys, 0));
+    let base = key_parts::base(ids::id(bytes, words, keys, 0));
     let has = is_set(bytes, named, k);
     let name = ids::id(bytes, words, names, k);
     let sequence = ids::cell(words, sequences, k);

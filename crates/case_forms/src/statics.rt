@@ -1,10 +1,10 @@
 // Stops, static trips with their stop times, and shapes with their points.
+use case_numbers::Whole;
 use case_tables::count;
 use case_tables::layout;
 use case_tables::limits;
 use case_tables::put;
 use case_tables::put::Put;
-use case_tokens::Whole;
 use case_tokens::closed;
 use case_tokens::field;
 use case_tokens::fields;
@@ -101,7 +101,7 @@ fn shaped(s: &[u8], bytes: &mut [u8], words: &mut [u32], row: u32) -> Why {
     if !texts::same(field(s, 4), b"(shape") {
         return frequency(s, bytes, 4, row);
     }
-    let Whole::Is(n) = case_tokens::number(closed(field(s, 5))) else {
+    let Whole::Is(n) = case_numbers::number(closed(field(s, 5))) else {
         return Why::Token(5);
     };
     put::word(words, layout::TRIP_SHAPE, row, n);
@@ -159,7 +159,7 @@ fn measured(s: &[u8], bytes: &mut [u8], dists: &mut [f32], row: u32) -> Why {
     if !texts::same(field(s, 5), b"(dist") {
         return Why::Tokens;
     }
-    let Whole::Is(bits) = case_tokens::single(closed(field(s, 6))) else {
+    let Whole::Is(bits) = case_numbers::single(closed(field(s, 6))) else {
         return Why::Token(6);
     };
     put::dist(dists, layout::CALL_DIST, row, ieee::f32_of(bits));

@@ -1,8 +1,8 @@
 // The feeds that have a calendar, their ranges and their exceptions.
+use case_numbers::Whole;
 use case_tables::layout;
 use case_tables::limits;
 use case_tables::put;
-use case_tokens::Whole;
 use case_tokens::field;
 use case_words::Why;
 use case_words::token;
@@ -22,7 +22,7 @@ fn range_days(s: &[u8], words: &mut [u32], row: u32) -> Why {
 
 // Its weekdays, then its days.
 fn range_rest(s: &[u8], bytes: &mut [u8], words: &mut [u32], row: u32) -> Why {
-    let Whole::Is(bits) = case_tokens::days(field(s, 5)) else {
+    let Whole::Is(bits) = case_numbers::days(field(s, 5)) else {
         return Why::Token(5);
     };
     put::byte(bytes, layout::RANGE_DAYS, row, (bits % 128) as u8);

@@ -1,7 +1,7 @@
 // What is asked of a case. Ids stay in the line: a query says only that they are ids.
+use case_digits::Natural;
+use case_numbers::Whole;
 use case_tables::limits;
-use case_tokens::Natural;
-use case_tokens::Whole;
 use case_tokens::field;
 use case_tokens::fields;
 use ids::Found;
@@ -36,14 +36,14 @@ pub enum Query {
 
 // Field i as an f64, or NaN where it is none: `is_real` says which.
 fn real(s: &[u8], i: usize) -> f64 {
-    match case_tokens::double(field(s, i)) {
+    match case_numbers::double(field(s, i)) {
         Natural::Is(bits) => ieee::f64_of(bits),
         Natural::Nothing => 0.0,
     }
 }
 
 fn is_real(s: &[u8], i: usize) -> bool {
-    match case_tokens::double(field(s, i)) {
+    match case_numbers::double(field(s, i)) {
         Natural::Is(_) => true,
         Natural::Nothing => false,
     }
@@ -51,21 +51,21 @@ fn is_real(s: &[u8], i: usize) -> bool {
 
 // Field i as an f32.
 fn single(s: &[u8], i: usize) -> f32 {
-    match case_tokens::single(field(s, i)) {
+    match case_numbers::single(field(s, i)) {
         Whole::Is(bits) => ieee::f32_of(bits),
         Whole::Nothing => 0.0,
     }
 }
 
 fn is_single(s: &[u8], i: usize) -> bool {
-    match case_tokens::single(field(s, i)) {
+    match case_numbers::single(field(s, i)) {
         Whole::Is(_) => true,
         Whole::Nothing => false,
     }
 }
 
 fn is_id(s: &[u8]) -> bool {
-    match case_tokens::id_length(s, limits::ID as usize) {
+    match case_ids::id_length(s, limits::ID as usize) {
         Found::At(_) => true,
         Found::Nothing => false,
     }
@@ -104,7 +104,7 @@ fn of_one(s: &[u8]) -> Query {
 
 // A query of one number.
 fn of_number(s: &[u8]) -> Query {
-    let Whole::Is(n) = case_tokens::number(field(s, 1)) else {
+    let Whole::Is(n) = case_numbers::number(field(s, 1)) else {
         return Query::Nothing;
     };
     let name = field(s, 0);
@@ -153,7 +153,7 @@ fn of_runs(s: &[u8]) -> Query {
     if !is_id(field(s, 2)) {
         return Query::Nothing;
     }
-    let Whole::Is(date) = case_tokens::number(field(s, 3)) else {
+    let Whole::Is(date) = case_numbers::number(field(s, 3)) else {
         return Query::Nothing;
     };
     Query::Runs(date)
@@ -164,10 +164,10 @@ fn of_leg(s: &[u8]) -> Query {
     if !is_id(field(s, 1)) {
         return Query::Nothing;
     }
-    let Whole::Is(from) = case_tokens::number(field(s, 2)) else {
+    let Whole::Is(from) = case_numbers::number(field(s, 2)) else {
         return Query::Nothing;
     };
-    let Whole::Is(to) = case_tokens::number(field(s, 3)) else {
+    let Whole::Is(to) = case_numbers::number(field(s, 3)) else {
         return Query::Nothing;
     };
     Query::Leg(from, to)
@@ -186,7 +186,7 @@ fn of_three(s: &[u8]) -> Query {
 
 // (along N Y Y X)
 fn of_along(s: &[u8]) -> Query {
-    let Whole::Is(shape) = case_tokens::number(field(s, 1)) else {
+    let Whole::Is(shape) = case_numbers::number(field(s, 1)) else {
         return Query::Nothing;
     };
     if !is_single(s, 2) {

@@ -82,14 +82,14 @@ pub fn id(bytes: &mut [u8], words: &mut [u32], column: u32, rows: u32, row: u32,
     if limits::ID_BYTES < before {
         return Put::Full;
     }
-    let Found::At(n) = case_tokens::id_length(s, limits::ID as usize) else {
+    let Found::At(n) = case_ids::id_length(s, limits::ID as usize) else {
         return Put::NoId;
     };
     if ((limits::ID_BYTES - before) as usize) < n {
         return Put::Full;
     }
     let from = layout::IDS as usize + before as usize;
-    case_tokens::put_id(bytes, from, n, s);
+    case_ids::put_id(bytes, from, n, s);
     word(words, column, row, layout::IDS + before);
     word(
         words,

@@ -1,10 +1,10 @@
 // One token of a line into a row of a column. Tokens are told by their fields: field 0 is the form's name.
 use crate::why::Why;
+use case_digits::Natural;
+use case_numbers::Signed;
+use case_numbers::Whole;
 use case_tables::put;
 use case_tables::put::Put;
-use case_tokens::Natural;
-use case_tokens::Signed;
-use case_tokens::Whole;
 use case_tokens::field;
 
 // An id, into a column that holds `rows`.
@@ -25,7 +25,7 @@ pub fn id(
 }
 
 pub fn number(s: &[u8], i: u32, words: &mut [u32], column: u32, row: u32) -> Why {
-    let Whole::Is(n) = case_tokens::number(field(s, i as usize)) else {
+    let Whole::Is(n) = case_numbers::number(field(s, i as usize)) else {
         return Why::Token(i);
     };
     put::word(words, column, row, n);
@@ -33,7 +33,7 @@ pub fn number(s: &[u8], i: u32, words: &mut [u32], column: u32, row: u32) -> Why
 }
 
 pub fn moment(s: &[u8], i: u32, times: &mut [i64], column: u32, row: u32) -> Why {
-    let Signed::Is(t) = case_tokens::moment(field(s, i as usize)) else {
+    let Signed::Is(t) = case_numbers::moment(field(s, i as usize)) else {
         return Why::Token(i);
     };
     put::time(times, column, row, t);
@@ -41,7 +41,7 @@ pub fn moment(s: &[u8], i: u32, times: &mut [i64], column: u32, row: u32) -> Why
 }
 
 fn real(s: &[u8], i: u32, reals: &mut [f64], column: u32, row: u32) -> Why {
-    let Natural::Is(bits) = case_tokens::double(field(s, i as usize)) else {
+    let Natural::Is(bits) = case_numbers::double(field(s, i as usize)) else {
         return Why::Token(i);
     };
     put::real(reals, column, row, ieee::f64_of(bits));

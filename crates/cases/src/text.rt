@@ -2,21 +2,18 @@
 use crate::lines::Taken;
 use crate::lines::next_line;
 use case_forms::read_form;
+use case_kept::LINES;
+use case_kept::kept;
+use case_kept::turn;
 use case_queries::Query;
 use case_queries::query_of;
 use case_tables::count;
 use case_tables::layout;
-use case_tables::put;
 use case_tokens::field;
 use case_tokens::inside;
 use case_words::Form;
 use case_words::Why;
 use case_words::form_of;
-ghost use Prim.Native.Nat.{_+_, _<_, _≤_};
-ghost use lib.ListN.{length};
-
-// More lines than any text has.
-const LINES: u64 = 9223372036854775808;
 
 // How far a text is read.
 pub struct Reading {
@@ -46,36 +43,6 @@ pub fn start(at: usize, n: usize) -> Reading {
         over: false,
         last: false,
     }
-}
-
-// Copies a text to `to`, from `at` on, where there is room.
-fn copy(s: &[u8], to: &mut [u8], at: usize)
-    requires { ⌜ at + length (now s) ≤ length (now to) ⌝ }
-{
-    let mut i = 0;
-    while i < s.len() {
-        to[at + i] = s[i];
-        i += 1;
-    }
-}
-
-// Keeps a query, with a newline, after the others.
-fn kept(s: &[u8], queries: &mut [u8], words: &mut [u32]) -> Why {
-    let before = count(words, layout::HELD_QUERY_BYTES);
-    let at = before as usize;
-    let n = s.len();
-    if queries.len() <= n {
-        return Why::Queries;
-    }
-    if queries.len() - n <= at {
-        return Why::Queries;
-    }
-    copy(s, queries, at);
-    put::byte(queries, before, (n % 4294967296) as u32, b'\n');
-    let used = std::num::wrapping_add_u32(before, (n % 4294967296) as u32);
-    put::word(words, layout::HELD_QUERY_BYTES, 0, used);
-    put::more(words, layout::HELD_QUERY_BYTES, 0);
-    Why::Nothing
 }
 
 // A query, or a line that is no form.
@@ -237,17 +204,6 @@ fn ended(words: &[u32], r: Reading) -> Reading {
         Why::Nothing => r,
         why => at_fault(r, r.lines, Form::Other, why),
     }
-}
-
-// The next line's number, or the last of all where the case is over.
-fn turn(k: u64, over: bool) -> u64
-    requires { ⌜ k < 9223372036854775808 ⌝ }
-    ensures { λ r. ⌜ k < r ⌝ }
-{
-    if over {
-        return LINES;
-    }
-    k + 1
 }
 
 // Reads a case from standard input, up to a line `end` or the end of the text: `text` and `line` hold a chunk and a line, and queries are kept in `queries`.

@@ -29,11 +29,11 @@ pub fn print_id(s: &[u8]) {
 }
 
 fn print_byte(b: u8) {
-    if case_tokens::is_plain(b) {
+    if case_ids::is_plain(b) {
         let one = [b];
         io::write_all(STDOUT_FILENO, &one);
     } else {
-        let three = case_tokens::escape(b);
+        let three = case_digits::escape(b);
         io::write_all(STDOUT_FILENO, &three);
     }
 }
@@ -61,30 +61,53 @@ fn say_name(form: Form) {
         Form::Cancelled => say(b"cancelled: "),
         Form::Route => say(b"route: "),
         Form::Update => say(b"update: "),
+        _ => say_table(form),
+    }
+}
+
+// Of a form that is none of the sailing's.
+fn say_table(form: Form) {
+    match form {
         Form::Stop => say(b"stop: "),
-        Form::StopKey => say(b"stop-key: "),
         Form::Static => say(b"static: "),
-        Form::StaticKey => say(b"static-key: "),
         Form::Call => say(b"call: "),
         Form::Shape => say(b"shape: "),
         Form::Point => say(b"point: "),
+        _ => say_lookup(form),
+    }
+}
+
+// Of a form of what rows are looked up by; a query, or no form, has none.
+fn say_lookup(form: Form) {
+    match form {
+        Form::StopKey => say(b"stop-key: "),
+        Form::StaticKey => say(b"static-key: "),
         Form::Alias => say(b"alias: "),
         Form::Line => say(b"line: "),
         Form::Calendar => say(b"calendar: "),
         Form::Range => say(b"range: "),
         Form::Exception => say(b"exception: "),
-        Form::Other => {}
+        _ => {}
     }
 }
 
+// Why a line is no form, or a text no case.
 fn say_why(why: Why) {
     match why {
-        Why::Nothing => {}
         Why::Long => say(b"longer than any form"),
         Why::Name => say(b"no form of this name, or no query that is written so"),
         Why::Tokens => say(b"too few words or too many, or a bracket out of its place"),
         Why::Token(i) => say_number(b"not what this form takes as word ", i),
         Why::Again => say(b"stands again"),
+        Why::NoStatic => say(b"no static stands above it"),
+        Why::NoShape => say(b"no shape stands above it"),
+        _ => say_whole(why),
+    }
+}
+
+// More than is held, or what the text lacks.
+fn say_whole(why: Why) {
+    match why {
         Why::Rows(n) => say_number(b"more rows than are held, which are ", n),
         Why::Ids => say_number(
             b"more bytes of ids than are held, which are ",
@@ -93,12 +116,11 @@ fn say_why(why: Why) {
         Why::Queries => say(
             b"more queries than are held, or a query for a program that holds none",
         ),
-        Why::NoStatic => say(b"no static stands above it"),
-        Why::NoShape => say(b"no shape stands above it"),
         Why::NoFeed => say(b"the text ends without a feed"),
         Why::NoTrip => say(b"the text ends without a trip"),
         Why::NoNow => say(b"the text ends without a now"),
         Why::Endless => say(b"the text does not end"),
+        _ => {}
     }
 }
 

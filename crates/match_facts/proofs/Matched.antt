@@ -15,7 +15,8 @@ use Rattle.ids.specs.declared.lookup.Found.{Found}
 use Rattle.ids.specs.declared.lookup.Found.the-variants.{At, Nothing}
 use Rattle.ids.proofs.ByteOrder.{clash}
 use Rattle.ids.proofs.Search.{first-found}
-use Rattle.refs.specs.Refs.{journeyIdOf, isUuid, tailOf}
+use Rattle.key_parts.specs.Keys.{tailOf}
+use Rattle.refs.specs.Refs.{journeyIdOf, isUuid}
 use Rattle.tokens.specs.Tokens.{tokenOf}
 use Rattle.tables.specs.declared.lent.Aliases.{Aliases}
 use Rattle.tables.specs.declared.lent.IdRows.{IdRows}

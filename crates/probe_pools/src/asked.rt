@@ -65,7 +65,7 @@ pub fn plain_ids(bytes: &mut [u8], words: &mut [u32]) {
 
 // Puts an id of a query where it is asked of.
 pub fn put_id(bytes: &mut [u8], words: &mut [u32], place: u32, column: u32, s: &[u8]) {
-    let Found::At(n) = case_tokens::put_id(bytes, place as usize, limits::ID as usize, s) else {
+    let Found::At(n) = case_ids::put_id(bytes, place as usize, limits::ID as usize, s) else {
         return;
     };
     put::word(words, column, 0, place);

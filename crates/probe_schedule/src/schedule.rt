@@ -1,9 +1,9 @@
 // Dates, services and matching.
+use case_numbers::Signed;
 use case_tables::Case;
 use case_tables::layout;
 use case_tables::put;
 use case_tables::span;
-use case_tokens::Signed;
 use case_tokens::field;
 use days::ReadDate;
 use ids::IdColumn;
@@ -143,7 +143,7 @@ fn put_departure(bytes: &mut [u8], times: &mut [i64], first: Signed) {
 // How long the trip key is before its last `@`.
 fn base_length(bytes: &[u8], words: &[u32]) -> u32 {
     let key = ids::id(bytes, words, case_tables::id_column(layout::KEY, 1, 1), 0);
-    let n = refs::base(key).len();
+    let n = key_parts::base(key).len();
     if 255 < n {
         return 255;
     }

@@ -1,34 +1,15 @@
 -- Journey refs taken apart. Each part is itself a text of the ref; an empty text stands for none.
-use Prim.Native.Nat.{ℕ, _-_}
+use Prim.Native.Nat.{ℕ}
 use mathlib.Core.Bool.{Bool, _&&_, _||_, cond}
 use mathlib.Core.List.{List, []}
 use lib.Dec.{eqb}
 use lib.ListN.{length, getD, take, drop}
 use Rattle.ids.specs.declared.byte.Kind.the-variants.{Byte}
 use Rattle.ids.specs.Bytes.{isOf}
-use Rattle.texts.specs.Texts.{prefixOf, suffixOf, equalIgnoringCase, firstByte, lastByte, firstPlace, runOf, trimmedOf, trimmedText}
-use Rattle.parts.specs.Parts.{upTo, past, afterLast, ifLong, orText}
-use Rattle.refs.specs.Words.{colons, loc, locWord, lowFeed, highFeed, serviceJourney, vehicleJourney}
-
--- a trip key before its last '@', or all of it: the base key
-abbrev pub baseOf : List ℕ → List ℕ
-baseOf key = upTo (lastByte key 64) key key
-
--- less one "idfm:" or "IDFM:" at the beginning
-abbrev pub rawOf : List ℕ → List ℕ
-rawOf s = cond (prefixOf lowFeed s || prefixOf highFeed s) (drop 5 s) s
-
--- less one ":LOC" at the end
-abbrev pub withoutLoc : List ℕ → List ℕ
-withoutLoc s = cond (suffixOf loc s) (take (length s - 4) s) s
-
--- less every ':' at the end
-abbrev pub withoutColons : List ℕ → List ℕ
-withoutColons s = take (trimmedOf s 58) s
-
--- less every ":LOC" at the end
-abbrev pub withoutLocs : List ℕ → List ℕ
-withoutLocs s = take (trimmedText loc s) s
+use Rattle.texts.specs.Texts.{equalIgnoringCase, firstByte, lastByte, firstPlace, runOf, trimmedOf}
+use Rattle.parts.specs.Parts.{upTo, past, afterLast, orText}
+use Rattle.key_parts.specs.Keys.{withoutColons, withoutLocs}
+use Rattle.refs.specs.Words.{colons, locWord, serviceJourney, vehicleJourney}
 
 -- what stands after the first "::", trimmed
 unfoldable pub afterColons : List ℕ → List ℕ
@@ -69,7 +50,3 @@ dashed s = eqb (length s) 36 && (dashAt s 8 && (dashAt s 13 && (dashAt s 18 && d
 -- the same between spaces
 unfoldable pub isUuid : List ℕ → Bool
 isUuid j = dashed (bare j)
-
--- the tail of a base key by which a trip id may be known
-unfoldable pub tailOf : List ℕ → List ℕ
-tailOf s = ifLong 6 (afterLast 58 (withoutLoc (withoutColons s)))

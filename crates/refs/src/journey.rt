@@ -1,7 +1,7 @@
 // The journey id of a ref, and whether it is a UUID.
-use crate::key::without_colons;
-use crate::key::without_locs;
 use ids::Kind;
+use key_parts::without_colons;
+use key_parts::without_locs;
 use parts::after_last;
 use parts::before;
 use parts::first;

@@ -1,11 +1,6 @@
-// Journey refs and trip keys as texts: helpers of the Rust's gtfs/siri_trip_map.rs. Every part that they give is a slice of the text that they
-// are given, and an empty one stands for none.
+// Journey refs as texts: helpers of the Rust's gtfs/siri_trip_map.rs. Every part that they give is a slice of the text that they are given, and an empty one
+// stands for none.
 mod journey; // the journey id of a ref, and whether it is a UUID
-mod key; // a trip key less what stands at its ends
 
 pub use journey::is_uuid;
 pub use journey::journey_id;
-pub use key::base;
-pub use key::raw;
-pub use key::tail;
-pub use key::without_loc;

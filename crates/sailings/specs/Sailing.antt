@@ -6,7 +6,7 @@ use lib.IntN.{ℤ, pos, _+ℤ_}
 use lib.ListN.{getD}
 use Rattle.ids.specs.Pool.{idOf}
 use Rattle.ids.specs.declared.lookup.Found.{Found}
-use Rattle.refs.specs.Refs.{baseOf}
+use Rattle.key_parts.specs.Keys.{baseOf}
 use Rattle.tables.specs.declared.lent.Sailing.{Sailing}
 use Rattle.tables.specs.declared.lent.Tables.{Tables}
 use Rattle.matching.specs.Matching.{matchOf}

@@ -51,7 +51,7 @@ fn trip_from(bytes: &[u8], words: &[u32], times: &[i64], t: Tables, first: Momen
         words,
         n,
         p,
-        refs::base(ids::id(bytes, words, keys, 0)),
+        key_parts::base(ids::id(bytes, words, keys, 0)),
         route(bytes, words, s),
         has_departure(first),
         today(at),

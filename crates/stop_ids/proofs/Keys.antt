@@ -10,7 +10,7 @@ use Rattle.ids.specs.declared.lookup.Found.{Found}
 use Rattle.ids.specs.declared.lookup.Found.the-variants.{Nothing}
 use Rattle.texts.specs.Texts.{holds}
 use Rattle.stop_digits.specs.Stops.{stopDigitsOf}
-use Rattle.refs.specs.Words.{lowFeed, highFeed}
+use Rattle.key_parts.specs.Words.{lowFeed, highFeed}
 use Rattle.trip_ids.proofs.Firsts.{or-nothing, or-or}
 use Rattle.stop_ids.specs.Stops.{feedKeys, plainKeys, digitKeys, textKeys, stopKeys, stopAt, firstStop, namedStop}
 use Rattle.stop_ids.specs.Words.{placeMark, pointMark}

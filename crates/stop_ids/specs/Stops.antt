@@ -13,7 +13,7 @@ use Rattle.ids.specs.declared.lookup.Found.the-variants.{At, Nothing}
 use Rattle.texts.specs.Texts.{holds}
 use Rattle.columns.specs.Rows.{bitOf}
 use Rattle.stop_digits.specs.Stops.{stopDigitsOf}
-use Rattle.refs.specs.Words.{lowFeed, highFeed}
+use Rattle.key_parts.specs.Words.{lowFeed, highFeed}
 use Rattle.tables.specs.declared.lent.Stops.{Stops}
 use Rattle.trip_ids.specs.Trips.{tripOf}
 use Rattle.stop_ids.specs.Words.{placeMark, pointMark}

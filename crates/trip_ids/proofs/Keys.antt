@@ -6,9 +6,9 @@ use mathlib.Core.List.{List, [], _∷_, _++_}
 use Rattle.ids.specs.First.{orElse}
 use Rattle.ids.specs.declared.lookup.Found.{Found}
 use Rattle.ids.specs.declared.lookup.Found.the-variants.{Nothing}
-use Rattle.texts.specs.Texts.{prefixOf}
-use Rattle.refs.specs.Refs.{rawOf, withoutLoc, journeyIdOf, isUuid}
-use Rattle.refs.specs.Words.{loc, localMark}
+use Rattle.key_parts.specs.Keys.{rawOf, withoutLoc}
+use Rattle.refs.specs.Refs.{journeyIdOf, isUuid}
+use Rattle.key_parts.specs.Words.{loc, localMark}
 use Rattle.tables.specs.declared.lent.Aliases.{Aliases}
 use Rattle.tables.specs.declared.lent.IdRows.{IdRows}
 use Rattle.trip_ids.specs.Trips.{aliasTrip, firstTrip, uuidKeys, localKeys, keysOf}

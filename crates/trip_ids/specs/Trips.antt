@@ -10,8 +10,9 @@ use Rattle.ids.specs.declared.lookup.Found.the-variants.{At, Nothing}
 use Rattle.ids.specs.declared.pool.Span.{Span}
 use Rattle.texts.specs.Texts.{prefixOf, firstByte}
 use Rattle.parts.specs.Parts.{upTo}
-use Rattle.refs.specs.Refs.{rawOf, withoutLoc, journeyIdOf, isUuid}
-use Rattle.refs.specs.Words.{loc, localMark}
+use Rattle.key_parts.specs.Keys.{rawOf, withoutLoc}
+use Rattle.refs.specs.Refs.{journeyIdOf, isUuid}
+use Rattle.key_parts.specs.Words.{loc, localMark}
 use Rattle.tables.specs.declared.lent.Aliases.{Aliases}
 use Rattle.tables.specs.declared.lent.IdRows.{IdRows}
 use Rattle.trip_ids.specs.Words.{tripMark, magentaMark, sncfMark, stifMark, localTripMark}

@@ -129,7 +129,7 @@ pub fn by_alias(
     requires { ⌜ Known (now bytes) (now words) tripkeys aliases ⌝ }
     ensures { λ r. ⌜ r ≡ firstTrip (now (bytes .entry)) (now (words .entry)) tripkeys aliases (keysOf (now (base .entry))) ⌝ }
 {
-    let raw = refs::raw(base);
+    let raw = key_parts::raw(base);
     let j = refs::journey_id(raw);
     let first = or_alias(
         bytes,
@@ -150,7 +150,7 @@ pub fn by_alias(
         second,
         b"",
         b"",
-        refs::without_loc(raw),
+        key_parts::without_loc(raw),
     );
     let fourth = or_alias(bytes, words, tripkeys, aliases, third, b"", b"", j);
     let fifth = or_uuid(bytes, words, tripkeys, aliases, fourth, j);

@@ -85,7 +85,7 @@ fn only_trip(bytes: &[u8], words: &[u32], tripkeys: IdRows, tail: &[u8]) -> Foun
 pub fn by_tail(bytes: &[u8], words: &[u32], tripkeys: IdRows, base: &[u8]) -> Found
     ensures { λ r. ⌜ r ≡ tailTrip (now (bytes .entry)) (now (words .entry)) tripkeys (now (base .entry)) ⌝ }
 {
-    let tail = refs::tail(base);
+    let tail = key_parts::tail(base);
     if tail.len() == 0 {
         return Found::Nothing;
     }

@@ -3,8 +3,8 @@ use Rattle.refs.specs.Refs.{afterColons}
 use Rattle.refs.proofs.journey.after_colons.Statement.{statement}
 use Rattle.refs.proofs.journey.after_colons.Tie as tie
 use Rattle.texts.proofs.first_place.Reads as first-place-reads
-use Rattle.refs.proofs.key.without_colons.Reads as without-colons-reads
-use Rattle.refs.proofs.key.without_locs.Reads as without-locs-reads
+use Rattle.key_parts.proofs.without_colons.Reads as without-colons-reads
+use Rattle.key_parts.proofs.without_locs.Reads as without-locs-reads
 use Rattle.parts.proofs.past_place.Reads as past-place-reads
 
 slice-aggregate-first-place : tie.Need-slice-aggregate-first-place

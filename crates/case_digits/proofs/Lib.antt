@@ -1,0 +1,2 @@
+-- `Spelling`: what digits spell, one digit at a time.
+pub mod Spelling

@@ -1,0 +1,56 @@
+-- `case_kept::queries::copy` is safe: it writes no byte past the end.
+use Prim.Native.Nat.{_≤_, _+_, _-_}
+use mathlib.Core.Path.{_≡_}
+use lib.ListN.{length}
+use borrow.Author.Needs.{needs}
+use Rattle.case_kept.proofs.queries.copy.Statement.{statement}
+use Rattle.case_kept.proofs.queries.copy.Tie as tie
+
+abbrev Inv-loop : tie.InvT-loop
+Inv-loop s to₀ at i₀ to i = (i ≤ length s) × (length to ≡ length to₀) × (at + length s ≤ length to₀)
+
+abbrev μ-loop : tie.MeasureT-loop
+μ-loop s to₀ at i₀ to i = length s - i
+
+loop-holds : tie.Need-loop-holds Inv-loop μ-loop
+loop-holds c = search needs
+
+shared-slice-read-to : tie.Need-shared-slice-read-to Inv-loop μ-loop
+shared-slice-read-to c = search needs
+
+add-to : tie.Need-add-to Inv-loop μ-loop
+add-to c = search needs
+
+slice-write-to : tie.Need-slice-write-to Inv-loop μ-loop
+slice-write-to c = search needs
+
+add-i : tie.Need-add-i Inv-loop μ-loop
+add-i c = search needs
+
+loop-less : tie.Need-loop-less Inv-loop μ-loop
+loop-less c = search needs
+
+loop-again : tie.Need-loop-again Inv-loop μ-loop
+loop-again c = search needs
+
+same-length : tie.Need-same-length Inv-loop μ-loop
+same-length c = search needs
+
+returns : tie.Need-returns Inv-loop μ-loop
+returns c = search needs
+
+pub copy-spec : {M : Type 1} → statement M
+copy-spec =
+    tie.close
+    (tie.spec
+    Inv-loop
+    μ-loop
+    loop-holds
+    shared-slice-read-to
+    add-to
+    slice-write-to
+    add-i
+    loop-less
+    loop-again
+    same-length
+    returns)

@@ -1,0 +1,2 @@
+-- `Numerals`: the numbers of the case language.
+pub mod Numerals
