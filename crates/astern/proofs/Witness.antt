@@ -27,7 +27,9 @@ use Rattle.tables.specs.declared.lent.Tables.{Tables}
 use Rattle.geometry_checks.specs.Operations.{geometryCauses}
 use Rattle.checks.specs.Operations.{estimateCauses, tripLookupCauses, calendarTablesCauses}
 use Rattle.paths.specs.declared.path.End.{End}
-use Rattle.stop_ids.specs.Stops.{textKeys, stopKeys, isPositioned, stopAt, firstStop, namedStop, stopOf}
+use Rattle.stop_rows.specs.Rows.{isPositioned}
+use Rattle.stop_names.specs.Names.{textKeys, stopKeys, stopAt, firstStop, namedStop}
+use Rattle.stop_ids.specs.Stops.{stopOf}
 use Rattle.calls.specs.Calls.{reportedOf, updateStop, callStop, callRows, callStops, callArrivals, callDepartures}
 use Rattle.update_rows.specs.Rows.{passing}
 use Rattle.update_rows.specs.Updates.{momentAt, momentOr, isSet, isTimed}

@@ -11,7 +11,7 @@ use Rattle.ids.specs.declared.lookup.Found.{Found}
 use Rattle.ids.specs.declared.lookup.Found.the-variants.{At, Nothing}
 use Rattle.ids.proofs.ByteOrder.{clash}
 use Rattle.key_parts.specs.Keys.{baseOf}
-use Rattle.stop_ids.specs.Stops.{isPositioned}
+use Rattle.stop_rows.specs.Rows.{isPositioned}
 use Rattle.stop_ids.proofs.Facts.{stop-holds}
 use Rattle.calls.specs.Calls.{updateStop, callStop, isCall, stopOfCall, callRows, callStops}
 use Rattle.update_rows.specs.Updates.{isSet, isTimed}

@@ -1,7 +1,7 @@
 // The stop that a row of the updates means.
 use ids::Found;
-use stop_ids::Lookup;
 use stop_ids::stop_of;
+use stop_rows::Lookup;
 use tables::Sailing;
 use tables::Updates;
 use update_rows::is_set;

@@ -28,7 +28,7 @@ use Rattle.checks.proofs.Operations.{Estimate, estimate-holds}
 use Rattle.lengths.proofs.Rows.{vertex-count}
 use Rattle.trip_rows.specs.Rows.{shapeSpan, tripSpan, shapeColumn, tripLine}
 use Rattle.trip_ids.specs.Trips.{tripOf}
-use Rattle.stop_ids.specs.Stops.{isPositioned}
+use Rattle.stop_rows.specs.Rows.{isPositioned}
 use Rattle.timetable.specs.Timetable.{namedOf, planOf}
 use Rattle.timetable.proofs.Holds.{flag-counts}
 use Rattle.match_facts.proofs.Matched.{id-holds, match-holds}

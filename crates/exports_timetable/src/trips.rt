@@ -1,15 +1,16 @@
 // The trip of a journey, and whether a service runs.
+use service_days::Running;
+use service_days::service_runs;
 use tables::Journey;
 use tables::Service;
 use tables::Tables;
 use timetable::Matched;
-use timetable::Running;
 use timetable::match_trip;
-use timetable::service_runs;
 ghost use mathlib.Core.Path.{_≡_};
 ghost use Rattle.measure.specs.Answer.{numberOf};
 ghost use Rattle.tables.specs.Pools.{pools};
-ghost use Rattle.timetable.specs.Answers.{matchAnswer, matchedOf, runAnswer, runningOf};
+ghost use Rattle.timetable.specs.Answers.{matchAnswer, matchedOf};
+ghost use Rattle.service_days.specs.Services.{runAnswer, runningOf};
 ghost use Rattle.exports_timetable.specs.Told.{rowOr, runsOr};
 
 // 0, with the trip's row in out if there is one, or the refusal's number; else out stays as it was.

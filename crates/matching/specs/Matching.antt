@@ -7,7 +7,8 @@ use Rattle.ids.specs.First.{orElse}
 use Rattle.ids.specs.declared.lookup.Found.{Found}
 use Rattle.ids.specs.declared.lookup.Found.the-variants.{Nothing}
 use Rattle.tokens.specs.Tokens.{tokenOf}
-use Rattle.trip_ids.specs.Trips.{Known, idTrip}
+use Rattle.trip_aliases.specs.Aliases.{Known}
+use Rattle.named_trips.specs.Named.{idTrip}
 use Rattle.trip_tails.specs.Tails.{tailTrip}
 use Rattle.trip_times.specs.Line.{lineTrip, Planned, ShortTokens}
 use Rattle.trip_fits.specs.declared.fit.Count.{Count}

@@ -1,10 +1,10 @@
 // Every way of finding a trip, in its turn.
 use ids::Found;
+use named_trips::by_id;
 use tables::Aliases;
 use tables::IdRows;
 use trip_fits::Count;
 use trip_fits::Plan;
-use trip_ids::by_id;
 use trip_tails::by_tail;
 use trip_times::by_token;
 ghost use mathlib.Core.Path.{_≡_};

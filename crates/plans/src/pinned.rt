@@ -4,7 +4,7 @@ use calls::update_stop;
 use ids::Found;
 use ids::cell;
 use paths::Status;
-use stop_ids::Lookup;
+use stop_rows::Lookup;
 use tables::Tables;
 use trip_rows::stop_point;
 use update_rows::best_row;

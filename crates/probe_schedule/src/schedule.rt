@@ -9,12 +9,12 @@ use days::ReadDate;
 use ids::IdColumn;
 use probe_pools::asked;
 use probe_pools::write;
+use service_days::Running;
 use tables::Journey;
 use tables::Service;
 use tables::StopTimes;
 use tables::Tables;
 use timetable::Matched;
-use timetable::Running;
 
 // (date N)
 pub fn date(n: u32) {
@@ -60,7 +60,15 @@ fn print_running(answer: Running) {
 
 fn ask_running(bytes: &[u8], words: &[u32], times: &[i64], reals: &[f64], dists: &[f32], c: Case) {
     let t = case_tables::tables(c);
-    print_running(timetable::service_runs(bytes, words, times, reals, dists, t, asked_service()));
+    print_running(service_days::service_runs(
+        bytes,
+        words,
+        times,
+        reals,
+        dists,
+        t,
+        asked_service(),
+    ));
 }
 
 // (runs ID ID N)

@@ -1,3 +1,2 @@
--- `Keys`: the keys of a name, one after the other. `Facts`: what is so of a stop that is found.
-pub mod Keys
+-- `Facts`: what is so of a stop that is found.
 pub mod Facts

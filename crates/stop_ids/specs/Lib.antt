@@ -1,3 +1,2 @@
--- `Words`: the fixed texts. `Stops`: the stop that an update names.
-pub mod Words
+-- `Stops`: the stop that an update means.
 pub mod Stops

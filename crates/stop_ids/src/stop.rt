@@ -1,15 +1,16 @@
 // The stop that an update means.
-use crate::lookup::Lookup;
-use crate::name::named_stop;
-use crate::row::row_stop;
 use ids::Found;
+use stop_names::named_stop;
+use stop_rows::Lookup;
+use stop_rows::row_stop;
 use trip_ids::by_key;
 ghost use Prim.Native.Nat.{_≤_};
 ghost use mathlib.Core.Bool.{true, cond};
 ghost use mathlib.Core.Path.{_≡_};
 ghost use lib.ListN.{length};
 ghost use Rattle.ids.specs.declared.lookup.Found.the-variants.{Nothing};
-ghost use Rattle.stop_ids.specs.Stops.{Known, namedStop, rowStopOf, stopOf};
+ghost use Rattle.stop_names.specs.Names.{Known, namedStop};
+ghost use Rattle.stop_ids.specs.Stops.{rowStopOf, stopOf};
 
 // By its name, if it has one.
 fn by_name(bytes: &[u8], words: &[u32], l: Lookup, feed: &[u8], named: bool, s: &[u8]) -> Found

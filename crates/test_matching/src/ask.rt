@@ -1,7 +1,7 @@
 // The answers.
 use libc::STDOUT_FILENO;
+use service_days::Running;
 use timetable::Matched;
-use timetable::Running;
 
 // Writes the answer of the last row, where the table with the letter asks. Says how many rows the table keeps: a question is asked once.
 pub(crate) fn answered(
@@ -22,7 +22,7 @@ pub(crate) fn answered(
         }
         b'v' => {
             let s = worlds::service(words);
-            tell_running(timetable::service_runs(bytes, words, times, reals, dists, t, s));
+            tell_running(service_days::service_runs(bytes, words, times, reals, dists, t, s));
             0
         }
         _ => rows,

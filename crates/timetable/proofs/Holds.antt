@@ -1,5 +1,5 @@
--- What the cores may take for granted where nothing is refused. Assumes nothing.
-use Prim.Native.Nat.{ℕ, suc, _+_, _/_, _%_, _^_, _<_}
+-- What matching may take for granted where nothing is refused. Assumes nothing.
+use Prim.Native.Nat.{ℕ, suc, _+_, _<_}
 use mathlib.Core.Path.{_≡_, refl}
 use mathlib.Core.Bool.{Bool, true, false, not, cond}
 use mathlib.Core.List.{List}
@@ -10,28 +10,24 @@ use lib.ListN.{getD, length}
 use lib.Signed.{leZ}
 use Rattle.ids.specs.declared.pool.Span.{Span}
 use Rattle.ids.proofs.ByteOrder.{clash}
-use Rattle.days.specs.Days.{leap, ordinal}
-use Rattle.days.proofs.Months.{months-bound}
-use Rattle.days.proofs.Years.{years-bound}
-use Rattle.columns.specs.Rows.{bitOf, counts}
+use Rattle.column_order.specs.Order.{bitOf}
+use Rattle.columns.specs.Rows.{counts}
 use Rattle.tables.specs.Pools.{Pools, partOf}
 use Rattle.tables.specs.Bounds.{chartBounds}
 use Rattle.refusals.specs.Refuse.{always, whereSet, refusalOf}
 use Rattle.tables.specs.declared.lent.Journey.{Journey}
-use Rattle.tables.specs.declared.lent.Service.{Service}
 use Rattle.tables.specs.declared.lent.Tables.{Tables}
 use Rattle.refusals.proofs.Facts.{Sized, Counts, all-count, part-at}
-use Rattle.calendar_rules.proofs.Parts.{calendar-feeds-ascend, ranges-ascend, exceptions-ascend, exception-days, exception-dates}
 use Rattle.lookup_rules.proofs.Parts.{row-ids-good, alias-ids-good, line-tokens-short, lines-ascend}
 use Rattle.asked_rules.proofs.Parts.{journey-departure, journey-departs, journey-offset, journey-departure-between, journey-offset-between}
-use Rattle.checks.specs.Operations.{matchingCauses, serviceDayCauses}
-use Rattle.checks.proofs.Operations.{Calendar, Lookup, Matching, matching-holds, service-day-holds}
-use Rattle.services.specs.Runs.{Calendared}
+use Rattle.checks.specs.Operations.{matchingCauses}
+use Rattle.checks.proofs.Operations.{Calendar, Lookup, Matching, matching-holds}
 use Rattle.row_lookup.proofs.Ascends.{lines-in-order}
-use Rattle.row_lookup.proofs.Ascends.{ranges-ascend as by-names, exceptions-ascend as by-day}
 use Rattle.matching.specs.Matching.{Ready}
 use Rattle.matching.specs.Moments.{InReach}
-use Rattle.timetable.specs.Timetable.{namedOf, planOf, timeOf, departsOf, localOf}
+use Rattle.asked_journey.specs.Journeys.{timeOf, departsOf, localOf}
+use Rattle.service_days.proofs.Holds.{calendared}
+use Rattle.timetable.specs.Timetable.{namedOf, planOf}
 
 -- a moment of document 01 in the local time of an offset
 pub in-reach : (x y : ℤ) → T (leZ (pos 0) x) → T (leZ x (pos 4102444799)) → T (leZ (negsuc 50399) y) → T (leZ y (pos 50400)) → InReach (x +ℤ y)
@@ -41,11 +37,6 @@ in-reach (pos n) (negsuc m) a b c d = go (ltb n (suc m)) refl where
   go true e = rw e (omega (arith, leb→le m 50399 c))
   go false e = rw e (omega (arith, leb→le n 4102444799 b))
 in-reach (negsuc n) y a b c d = absurd a
-
--- an ordinal is a word, even of digits that are no date
-pub ordinal-word : (n : ℕ) → n < 2 ^ 32 → ordinal n < 2 ^ 32
-unfolding ordinal
-ordinal-word n h = omega (arith, years-bound (n / 10000), months-bound (leap (n / 10000)) (n / 100 % 100))
 
 -- the first row of a column of one
 pub first-at : {A : Type 0} (xs : List A) {s : Span} → Sized (length xs) s 1 → (d : A) → getD (partOf xs s) 0 d ≡ getD xs (s .at) d
@@ -60,18 +51,6 @@ flag-counts p {s} z k l f = rw (part-at (p .bytes) z 0 k l) (go (eqb (getD (p .b
   go false g = refl
 
 module _ (p : Pools) (t : Tables) where
-  pub calendared : Calendar p chartBounds t → Calendared (p .bytes) (p .words) (t .calendars) (t .ranges) (t .exceptions)
-  calendared h = record {
-    calendars = calendar-feeds-ascend p chartBounds _ (h .calendars);
-    ranges = by-names (p .bytes) (p .words) _ _ _ (ranges-ascend p chartBounds _ (h .ranges));
-    exceptions =
-        by-day (p .bytes) (p .words) _ _ _ _ _ (exceptions-ascend p chartBounds _ (h .exceptions))
-        (λ k l. rw (part-at (p .words) (exception-days p chartBounds _ (h .exceptions)) 0 k l) at (exception-dates p chartBounds _ (h .exceptions) k l));
-  }
-
-  pub service-ready : (s : Service) → refusalOf p (serviceDayCauses chartBounds t s) ≡ 0 → Calendared (p .bytes) (p .words) (t .calendars) (t .ranges) (t .exceptions)
-  service-ready s e = calendared (service-day-holds p chartBounds t s e .calendar)
-
   -- what a trip is found in: ids and aliases that ascend, lines and calendars in order
   pub found-ready : Lookup p chartBounds t → Calendar p chartBounds t → Ready (p .bytes) (p .words) (namedOf t) (planOf t)
   found-ready l c =
@@ -82,7 +61,7 @@ module _ (p : Pools) (t : Tables) where
         };
         planned = record {
           lines = lines-in-order (p .bytes) (p .words) _ _ _ (lines-ascend p chartBounds _ _ (l .lines));
-          calendars = calendared c;
+          calendars = calendared p t c;
         };
         short = record { short = line-tokens-short p chartBounds _ _ (l .lines) (omega arith) };
       }

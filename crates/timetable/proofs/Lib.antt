@@ -1,5 +1,3 @@
--- `Local`: the first departure in local time. `Holds`: what the cores may take for granted where nothing is refused. `Clock`: matching never
--- reads the clock.
-pub mod Local
+-- `Holds`: what matching may take for granted where nothing is refused. `Clock`: matching never reads the clock.
 pub mod Holds
 pub mod Clock

@@ -1,5 +1,4 @@
--- What the operations answer, in document 01's terms: the first refusal that applies, its number alone, or the value.
-use mathlib.Core.Bool.{Bool, true, false}
+-- What matching answers, in document 01's terms: the first refusal that applies, its number alone, or the value.
 use Rattle.ids.specs.declared.lookup.Found.{Found}
 use Rattle.ids.specs.declared.lookup.Found.the-variants.{At, Nothing}
 use Rattle.measure.specs.Answer.{Answer, refused, given}
@@ -8,14 +7,11 @@ use Rattle.tables.specs.Pools.{Pools}
 use Rattle.tables.specs.Bounds.{chartBounds}
 use Rattle.refusals.specs.Refuse.{refusalOf}
 use Rattle.tables.specs.declared.lent.Journey.{Journey}
-use Rattle.tables.specs.declared.lent.Service.{Service}
 use Rattle.tables.specs.declared.lent.Tables.{Tables}
-use Rattle.checks.specs.Operations.{matchingCauses, serviceDayCauses}
-use Rattle.timetable.specs.Timetable.{journeyTrip, serviceRuns}
+use Rattle.checks.specs.Operations.{matchingCauses}
+use Rattle.timetable.specs.Timetable.{journeyTrip}
 use Rattle.timetable.specs.declared.matched.Matched.{Matched}
 use Rattle.timetable.specs.declared.matched.Matched.the-variants.{Trip, Nothing as NoTrip, Refused}
-use Rattle.timetable.specs.declared.running.Running.{Running}
-use Rattle.timetable.specs.declared.running.Running.the-variants.{Runs, Rests, Refused as Denied}
 
 -- the number and the value of each case
 abbrev pub matchAnswer : Matched → Answer Found
@@ -23,15 +19,6 @@ matchAnswer (Trip k) = given (At k)
 matchAnswer NoTrip = given Nothing
 matchAnswer (Refused n) = refused n
 
-abbrev pub runAnswer : Running → Answer Bool
-runAnswer Runs = given true
-runAnswer Rests = given false
-runAnswer (Denied n) = refused n
-
 -- trip matching
 unfoldable pub matchedOf : Pools → Tables → Journey → Answer Found
 matchedOf p t j = unlessRefused (refusalOf p (matchingCauses chartBounds t j)) (journeyTrip (p .bytes) (p .words) (p .times) t j)
-
--- whether a service runs on a date
-unfoldable pub runningOf : Pools → Tables → Service → Answer Bool
-runningOf p t s = unlessRefused (refusalOf p (serviceDayCauses chartBounds t s)) (serviceRuns (p .bytes) (p .words) t s)

@@ -1,7 +1,7 @@
 // The trip that a journey stands for.
-use crate::asked::departs;
-use crate::asked::local;
-use crate::asked::route;
+use asked_journey::departs;
+use asked_journey::local;
+use asked_journey::route;
 use checks::check_matching;
 use ids::Found;
 use matching::Named;
@@ -16,7 +16,8 @@ ghost use mathlib.Core.Path.{_≡_};
 ghost use Rattle.tables.specs.Pools.{pools};
 ghost use Rattle.matching.specs.Matching.{Ready};
 ghost use Rattle.matching.specs.Moments.{InReach};
-ghost use Rattle.timetable.specs.Timetable.{namedOf, planOf, localOf, journeyTrip};
+ghost use Rattle.asked_journey.specs.Journeys.{localOf};
+ghost use Rattle.timetable.specs.Timetable.{namedOf, planOf, journeyTrip};
 ghost use Rattle.timetable.specs.Answers.{matchAnswer, matchedOf};
 
 // What matching answers.

@@ -1,3 +1,2 @@
--- `Firsts`: the first of several answers that is one, and what comes before the first. `Keys`: a ref's keys, one after the other.
+-- `Firsts`: the first of several answers that is one, and what comes before the first.
 pub mod Firsts
-pub mod Keys

@@ -1,3 +1,3 @@
--- `Words`: the fixed texts. `Trips`: the trip that a text names.
+-- `Words`: a fixed text of a trip's id. `Trips`: the trip whose id a text is.
 pub mod Words
 pub mod Trips

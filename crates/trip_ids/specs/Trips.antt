@@ -1,42 +1,12 @@
--- The trip that a ref names: as its id, by an alias, by an id made of its parts. A trip is the number that a row of the trip ids has.
+-- The trip whose id a text is. A trip is the number that a row of the trip ids has.
 use Prim.Native.Nat.{ℕ}
-use mathlib.Core.Bool.{cond}
-use mathlib.Core.List.{List, [], _∷_, _++_}
-use Rattle.ids.specs.First.{orElse}
+use mathlib.Core.List.{List}
 use Rattle.ids.specs.Pool.{cellOf, idOf}
-use Rattle.ids.specs.Rows.{rowOf, GoodIds}
+use Rattle.ids.specs.Rows.{rowOf}
 use Rattle.ids.specs.declared.lookup.Found.{Found}
 use Rattle.ids.specs.declared.lookup.Found.the-variants.{At, Nothing}
 use Rattle.ids.specs.declared.pool.Span.{Span}
-use Rattle.texts.specs.Texts.{prefixOf, firstByte}
-use Rattle.parts.specs.Parts.{upTo}
-use Rattle.key_parts.specs.Keys.{rawOf, withoutLoc}
-use Rattle.refs.specs.Refs.{journeyIdOf, isUuid}
-use Rattle.key_parts.specs.Words.{loc, localMark}
-use Rattle.tables.specs.declared.lent.Aliases.{Aliases}
 use Rattle.tables.specs.declared.lent.IdRows.{IdRows}
-use Rattle.trip_ids.specs.Words.{tripMark, magentaMark, sncfMark, stifMark, localTripMark}
-
--- the keys of a journey id that is a UUID
-unfoldable pub uuidKeys : List ℕ → List (List ℕ)
-uuidKeys j = cond (isUuid j) ((tripMark ++ j) ∷ (magentaMark ++ (j ++ loc)) ∷ (sncfMark ++ (j ++ loc)) ∷ []) []
-
--- the keys of a journey id that begins with "local-"
-unfoldable pub localKeys : List ℕ → List (List ℕ)
-localKeys j = cond (prefixOf localMark j) ((stifMark ++ (j ++ loc)) ∷ (localTripMark ++ j) ∷ []) []
-
--- the keys of a ref less its feed
-abbrev pub rawKeys : List ℕ → List (List ℕ)
-rawKeys raw = let j = journeyIdOf raw in raw ∷ withoutLoc raw ∷ j ∷ (uuidKeys j ++ localKeys j)
-
--- the keys by which a base key is looked up in the aliases. `siri_ref_lookup_keys` drops those that are empty, as the journey id of a ref that has none,
--- and those that repeat another: no alias is empty, and a repeat is answered as before, so that neither changes the trip
-unfoldable pub keysOf : List ℕ → List (List ℕ)
-keysOf base = base ∷ rawKeys (rawOf base)
-
--- the text before the first ':', or all of it
-unfoldable pub feedOf : List ℕ → List ℕ
-feedOf base = upTo (firstByte base 58) base base
 
 -- the trip, where nothing is found
 abbrev pub unless : Found → Found → Found
@@ -48,36 +18,7 @@ abbrev pub tripAt : List ℕ → Span → Found → Found
 tripAt words row (At k) = At (cellOf words row k)
 tripAt words row Nothing = Nothing
 
-module _ (bytes words : List ℕ) where
-  -- trip ids and aliases ascend, and none is over 96 bytes
-  pub record Known (tripkeys : IdRows) (aliases : Aliases) : Type 0 where
-    pub trip-ids : GoodIds (idOf bytes words (tripkeys .id)) (tripkeys .id .starts .n)
-    pub alias-ids : GoodIds (idOf bytes words (aliases .id)) (aliases .id .starts .n)
-
-  module _ (tripkeys : IdRows) where
-    -- the trip whose id is the key
-    unfoldable pub tripOf : List ℕ → Found
-    tripOf key = tripAt words (tripkeys .row) (rowOf (idOf bytes words (tripkeys .id)) (tripkeys .id .starts .n) key)
-
-    -- the trip whose id is made of the ref's feed and its journey id, where that is a UUID
-    unfoldable pub builtOf : List ℕ → Found
-    builtOf base = let j = journeyIdOf base in cond (isUuid j) (tripOf (feedOf base ++ (58 ∷ tripMark ++ j))) Nothing
-
-    module _ (aliases : Aliases) where
-      -- the trip whose id the row found has
-      abbrev pub namedAt : Found → Found
-      namedAt (At k) = tripOf (idOf bytes words (aliases .trip) k)
-      namedAt Nothing = Nothing
-
-      -- the trip that an alias stands for
-      unfoldable pub aliasTrip : List ℕ → Found
-      aliasTrip key = namedAt (rowOf (idOf bytes words (aliases .id)) (aliases .id .starts .n) key)
-
-      -- the trip of the first key that stands for one
-      unfoldable pub firstTrip : List (List ℕ) → Found
-      firstTrip [] = Nothing
-      firstTrip (key ∷ keys) = orElse (aliasTrip key) (firstTrip keys)
-
-      -- the trip that a base key names: as its id, by its aliases, by the id made of its parts
-      unfoldable pub idTrip : List ℕ → Found
-      idTrip base = orElse (tripOf base) (orElse (firstTrip (keysOf base)) (builtOf base))
+module _ (bytes words : List ℕ) (tripkeys : IdRows) where
+  -- the trip whose id is the key
+  unfoldable pub tripOf : List ℕ → Found
+  tripOf key = tripAt words (tripkeys .row) (rowOf (idOf bytes words (tripkeys .id)) (tripkeys .id .starts .n) key)

@@ -5,7 +5,7 @@ use Rattle.matching.proofs.whole.resolve.Statement.{statement}
 use Rattle.matching.proofs.whole.resolve.Tie as tie
 use Rattle.matching.proofs.whole.by_time.Reads as by-time-reads
 use Rattle.trip_tails.proofs.by_tail.Reads as by-tail-reads
-use Rattle.trip_ids.proofs.by_id.Reads as by-id-reads
+use Rattle.named_trips.proofs.by_id.Reads as by-id-reads
 
 by-id-requires : tie.Need-by-id-requires
 by-id-requires c κs = search needs

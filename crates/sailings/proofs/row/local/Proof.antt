@@ -3,7 +3,7 @@ use borrow.Author.Needs.{needs}
 use mathlib.Core.Path.{_∙_, ap, sym, subst}
 use lib.IntN.{pos}
 use Rattle.matching.specs.Moments.{InReach}
-use Rattle.timetable.proofs.Local.{sum-fits, sum-read}
+use Rattle.asked_journey.proofs.Sums.{sum-fits, sum-read}
 use Rattle.update_rows.specs.declared.first.Moment.{Moment}
 use Rattle.sailings.specs.Sailing.{InTime, localAt}
 use Rattle.sailings.proofs.row.local.Statement.{statement}

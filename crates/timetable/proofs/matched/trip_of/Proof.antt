@@ -5,10 +5,10 @@ use Rattle.matching.specs.Moments.{InReach}
 use Rattle.timetable.specs.Timetable.{journeyTrip}
 use Rattle.timetable.proofs.matched.trip_of.Statement.{statement}
 use Rattle.timetable.proofs.matched.trip_of.Tie as tie
-use Rattle.timetable.proofs.asked.local.Reads as local-reads
-use Rattle.timetable.proofs.asked.route.Reads as route-reads
+use Rattle.asked_journey.proofs.local.Reads as local-reads
+use Rattle.asked_journey.proofs.route.Reads as route-reads
 use Rattle.ids.proofs.id.Reads as id-reads
-use Rattle.timetable.proofs.asked.departs.Reads as departs-reads
+use Rattle.asked_journey.proofs.departs.Reads as departs-reads
 use Rattle.matching.proofs.today.Reads as today-reads
 use Rattle.matching.proofs.yesterday.Reads as yesterday-reads
 use Rattle.matching.proofs.resolve.Reads as resolve-reads

@@ -1,4 +1,4 @@
--- `trip_ids::tail::next_row` meets its contract. The loop's invariant: no row so far passes.
+-- `trip_tails::tail::next_row` meets its contract. The loop's invariant: no row so far passes.
 use borrow.Author.Count.{below-more}
 use borrow.Author.Needs.{needs}
 use native.Mathlib.Omega.{arith}

@@ -1,0 +1,2 @@
+-- `Sums`: the first departure in local time.
+pub mod Sums

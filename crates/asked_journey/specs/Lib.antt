@@ -1,0 +1,2 @@
+-- `Journeys`: what the row of a journey says.
+pub mod Journeys

@@ -1,0 +1,2 @@
+-- `Named`: the trip that a ref names.
+pub mod Named

@@ -1,0 +1,2 @@
+-- `Rows`: the stop at a sequence in a trip.
+pub mod Rows

@@ -1,0 +1,2 @@
+-- `Keys`: a ref's keys, one after the other.
+pub mod Keys
