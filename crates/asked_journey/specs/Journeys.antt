@@ -7,7 +7,7 @@ use lib.IntN.{ℤ, pos, _+ℤ_}
 use lib.ListN.{getD}
 use Rattle.ids.specs.Pool.{idOf}
 use Rattle.ids.specs.declared.pool.Span.{Span}
-use Rattle.column_order.specs.Order.{bitOf}
+use Rattle.columns.specs.Rows.{bitOf}
 use Rattle.tables.specs.declared.lent.Journey.{Journey}
 
 -- the first time of a column

@@ -7,7 +7,7 @@ use Rattle.ids.specs.First.{first}
 use Rattle.ids.specs.Pool.{cellOf}
 use Rattle.ids.specs.declared.lookup.Found.{Found}
 use Rattle.ids.specs.declared.lookup.Found.the-variants.{At, Nothing}
-use Rattle.column_order.specs.Order.{bitOf}
+use Rattle.columns.specs.Rows.{bitOf}
 use Rattle.tables.specs.declared.lent.Stops.{Stops}
 use Rattle.stop_rows.specs.declared.lookup.Lookup.{Lookup}
 

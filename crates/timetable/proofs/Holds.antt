@@ -10,8 +10,7 @@ use lib.ListN.{getD, length}
 use lib.Signed.{leZ}
 use Rattle.ids.specs.declared.pool.Span.{Span}
 use Rattle.ids.proofs.ByteOrder.{clash}
-use Rattle.column_order.specs.Order.{bitOf}
-use Rattle.columns.specs.Rows.{counts}
+use Rattle.columns.specs.Rows.{bitOf, counts}
 use Rattle.tables.specs.Pools.{Pools, partOf}
 use Rattle.tables.specs.Bounds.{chartBounds}
 use Rattle.refusals.specs.Refuse.{always, whereSet, refusalOf}
