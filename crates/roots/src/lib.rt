@@ -1,5 +1,4 @@
 // The square root of an f64, correctly rounded: equal to a definition of specs/. proofs/ has the laws on its order.
-mod cubics; // cubics.rt: polynomials for a first guess at a root
 mod square_root; // square_root.rt: root
 
 pub use square_root::root;

@@ -4,12 +4,7 @@ ghost use mathlib.Core.Path.{_≡_};
 ghost use Prim.Native.Nat.{_+_, _*_, _/_, _^_, _%_, _≤_, _<_};
 ghost use lib.Dec.{leb};
 ghost use Rattle.roots.specs.Root.{wholeRoot, Around, builtOf, rootOf};
-use crate::cubics::constant;
-use crate::cubics::cubed;
-use crate::cubics::linear;
-use crate::cubics::squared;
-use std::num::wrapping_add_u64;
-use std::num::wrapping_sub_u64;
+use inverse_root::inverse;
 
 // Whether g * g is at most m * 2^54, from the halves of g.
 fn square_le(g: u64, m: u64) -> bool
@@ -34,16 +29,6 @@ fn square_le(g: u64, m: u64) -> bool
         return false;
     }
     false
-}
-
-// Near 2^90 / root w, for the w that the bits b of a float give: a cubic for the part in which it lies. Nothing is proved of it.
-fn inverse(b: u64) -> u64 {
-    let i = b / 70368744177664 % 128;
-    let t = b / 262144 % 268435456;
-    let tt = t * t / 268435456;
-    let ttt = tt * t / 268435456;
-    let more = wrapping_add_u64(constant(i), squared(i) as u64 * tt);
-    wrapping_sub_u64(more, linear(i) as u64 * t + cubed(i) as u64 * ttt)
 }
 
 // The root of m * 2^54, cut to a whole number, by halving what it lies between.

@@ -1,9 +1,10 @@
+-- `inverse_root::inverse` meets its contract: no product and no sum overflows.
 use borrow.Author.Needs.{needs}
 use Prim.Native.Nat.{ℕ, _*_, _/_, _%_, _<_}
 use native.Mathlib.Omega.{arith}
-use Rattle.roots.proofs.square_root.Near.{part-product, part-scaled}
-use Rattle.roots.proofs.square_root.inverse.Statement.{statement}
-use Rattle.roots.proofs.square_root.inverse.Tie as tie
+use Rattle.inverse_root.proofs.Products.{part-product, part-scaled}
+use Rattle.inverse_root.proofs.guess.inverse.Statement.{statement}
+use Rattle.inverse_root.proofs.guess.inverse.Tie as tie
 
 module _ (b : ℕ) where
   abbrev t : ℕ

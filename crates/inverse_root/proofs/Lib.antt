@@ -1,0 +1,2 @@
+-- `Products`: the sizes of products that the cubics take.
+mod Products
