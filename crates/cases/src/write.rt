@@ -10,7 +10,9 @@ pub fn print_none() {
     io::write_all(STDOUT_FILENO, b"(none)\n");
 }
 
+// A refusal; what it is given for goes to standard error.
 pub fn print_refusal(number: u32) {
+    say_refusal(number);
     io::write_all(STDOUT_FILENO, b"(refused ");
     io::print_decimal(STDOUT_FILENO, number as u64);
     io::write_all(STDOUT_FILENO, b")\n");
@@ -35,6 +37,30 @@ fn print_byte(b: u8) {
     } else {
         let three = case_digits::escape(b);
         io::write_all(STDOUT_FILENO, &three);
+    }
+}
+
+// What a refusal of what is lent is given for.
+fn say_refusal(number: u32) {
+    match number {
+        1 => say(b"refused 1: columns of one table have unequal lengths\n"),
+        2 => say(b"refused 2: a count or an id is over its bound\n"),
+        3 => say(b"refused 3: a position is off the globe, or not a number\n"),
+        4 => say(b"refused 4: ids of a table, or sequences of updates, do not ascend\n"),
+        5 => say(b"refused 5: an index, or a range of rows, is outside its table\n"),
+        _ => say_later_refusal(number),
+    }
+}
+
+// Of a number above five; that of 11 is said by its line.
+fn say_later_refusal(number: u32) {
+    match number {
+        6 => say(b"refused 6: a moment, the offset or a schedule second is out of bounds\n"),
+        7 => say(b"refused 7: an id has a byte outside 32..126, or is empty\n"),
+        8 => say(b"refused 8: a distance is not finite, or a number is NaN\n"),
+        9 => say(b"refused 9: an output is too short\n"),
+        10 => say(b"refused 10: a date is not one\n"),
+        _ => {}
     }
 }
 
