@@ -38,7 +38,7 @@ use Rattle.ieee.specs.Number.{clamp01Of}
 use Rattle.stretches.specs.Drawing.{betweenOf}
 use Rattle.legs.specs.Walk.{walkOf}
 use Rattle.trip_rows.specs.Rows.{stopPoint}
-use Rattle.timeline.specs.Fraction.{legFraction}
+use Rattle.fractions.specs.Fraction.{legFraction}
 use Rattle.timeline.specs.Turn.{timeAt, during, turnOf}
 use Rattle.timeline_order.specs.Order.{Timely}
 use Rattle.estimate_facts.proofs.Trips.{sailing-trip-is}

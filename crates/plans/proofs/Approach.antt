@@ -10,7 +10,7 @@ use Rattle.tables.specs.Pools.{Pools}
 use Rattle.tables.specs.declared.lent.Tables.{Tables}
 use Rattle.previous.specs.Run.{runOf}
 use Rattle.timeline.specs.Turn.{timeAt}
-use Rattle.timeline.specs.Fraction.{approachFraction, legFraction}
+use Rattle.fractions.specs.Fraction.{approachFraction, legFraction}
 use Rattle.paths.specs.declared.path.End.{End}
 use Rattle.paths.specs.declared.status.Status.{Status}
 use Rattle.legs.specs.declared.walk.Walked.{Walked}

@@ -1,3 +1,2 @@
--- What the contracts cite. `Turn`: which call or leg the clock falls to. `Fraction`: how much of a leg has gone by.
+-- What the contracts cite. `Turn`: which call or leg the clock falls to.
 pub mod Turn
-pub mod Fraction

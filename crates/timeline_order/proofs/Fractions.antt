@@ -18,7 +18,7 @@ use Rattle.floats.proofs.Whole.{int-mono, int-pos, int-finite}
 use Rattle.ieee.specs.Number.{clamp01Of, maxOf}
 use Rattle.maths.specs.Series.{whole}
 use Rattle.along_order.proofs.Clamp.{clamp-mono, clamp-low, clamp-high}
-use Rattle.timeline.specs.Fraction.{legFraction, runOver, approachFraction}
+use Rattle.fractions.specs.Fraction.{legFraction, runOver, approachFraction}
 use Rattle.timeline_order.proofs.Quotients.{Inside, inside-quotient, inside-turned, inside-clamped}
 
 -- ---- what fits

@@ -19,7 +19,7 @@ use Rattle.paths.specs.declared.status.Status.{Status}
 use Rattle.paths.specs.declared.status.Status.the-variants.{StoppedAt, IncomingAt, InTransitTo}
 use Rattle.timeline.specs.Turn.{timeAt}
 use Rattle.timeline.specs.Turn.{turnOf as clockTurn}
-use Rattle.timeline.specs.Fraction.{legFraction, approachFraction}
+use Rattle.fractions.specs.Fraction.{legFraction, approachFraction}
 use Rattle.timeline.specs.declared.turn.Turn.{Turn}
 use Rattle.timeline.specs.declared.turn.Turn.the-variants.{At, Between, Towards, After}
 use Rattle.timeline_order.specs.Order.{Timely}

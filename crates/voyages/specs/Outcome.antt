@@ -5,7 +5,7 @@ use lib.Dec.{eqb, ltb}
 use lib.Ieee.{Float}
 use lib.ListN.{length}
 use Rattle.timeline.specs.Turn.{timeAt, turnOf}
-use Rattle.timeline.specs.Fraction.{legFraction, approachFraction, isIncoming}
+use Rattle.fractions.specs.Fraction.{legFraction, approachFraction, isIncoming}
 use Rattle.timeline.specs.declared.turn.Turn.{Turn}
 use Rattle.timeline.specs.declared.turn.Turn.the-variants.{At, Between, Towards, After}
 use Rattle.legs.specs.Walk.{walkOf}

@@ -4,7 +4,7 @@ use ieee::max_of;
 use std::num::nearest_u64_to_f64;
 ghost use mathlib.Core.Path.{_≡_};
 ghost use Prim.Native.Nat.{_-_, max};
-ghost use Rattle.timeline.specs.Fraction.{legFraction, approachFraction, isIncoming};
+ghost use Rattle.fractions.specs.Fraction.{legFraction, approachFraction, isIncoming};
 
 // a less b, or 0.
 fn less(a: u64, b: u64) -> u64

@@ -1,7 +1,7 @@
--- `timeline::fraction::leg_fraction` meets its contract.
-use Rattle.timeline.specs.Fraction.{legFraction}
-use Rattle.timeline.proofs.fraction.leg_fraction.Statement.{statement}
-use Rattle.timeline.proofs.fraction.leg_fraction.Tie as tie
+-- `fractions::fraction::leg_fraction` meets its contract.
+use Rattle.fractions.specs.Fraction.{legFraction}
+use Rattle.fractions.proofs.fraction.leg_fraction.Statement.{statement}
+use Rattle.fractions.proofs.fraction.leg_fraction.Tie as tie
 
 less-requires : tie.Need-less-requires
 less-requires c κs = tt

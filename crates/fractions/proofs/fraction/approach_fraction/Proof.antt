@@ -1,8 +1,8 @@
--- `timeline::fraction::approach_fraction` meets its contract.
+-- `fractions::fraction::approach_fraction` meets its contract.
 use lib.Ieee.{ofBits, ofInt}
-use Rattle.timeline.specs.Fraction.{approachFraction, runOver}
-use Rattle.timeline.proofs.fraction.approach_fraction.Statement.{statement}
-use Rattle.timeline.proofs.fraction.approach_fraction.Tie as tie
+use Rattle.fractions.specs.Fraction.{approachFraction, runOver}
+use Rattle.fractions.proofs.fraction.approach_fraction.Statement.{statement}
+use Rattle.fractions.proofs.fraction.approach_fraction.Tie as tie
 
 less-requires : tie.Need-less-requires
 less-requires c κs = tt
