@@ -13,9 +13,9 @@ use Rattle.refusals.specs.Refuse.{refusalOf}
 use Rattle.tables.specs.declared.lent.Tables.{Tables}
 use Rattle.checks.specs.Operations.{estimateCauses}
 use Rattle.timeline.specs.Turn.{timeAt}
-use Rattle.update_rows.specs.Rows.{passing, bestBelow}
+use Rattle.update_rows.specs.Rows.{passing}
 use Rattle.calls.specs.Calls.{callRows, callArrivals}
-use Rattle.update_rows.specs.Updates.{bestRow}
+use Rattle.best_rows.specs.Serving.{bestBelow, bestRow}
 use Rattle.sailings.specs.Sailing.{clockOf}
 use Rattle.estimate_facts.proofs.Asked.{clock-bound, arrivals-bound}
 use Rattle.voyages.specs.Outcome.{outcomeAt}

@@ -13,7 +13,7 @@ use Rattle.tables.specs.declared.lent.Tables.{Tables}
 use Rattle.checks.specs.Operations.{estimateCauses}
 use Rattle.paths.specs.declared.path.End.{End}
 use Rattle.calls.specs.Calls.{reportedOf, updateStop, callArrivals}
-use Rattle.update_rows.specs.Updates.{bestRow}
+use Rattle.best_rows.specs.Serving.{bestRow}
 use Rattle.voyages.specs.Voyage.{Voyage}
 use Rattle.voyages.specs.Outcome.{outcomeAt}
 use Rattle.plans.specs.Plan.{legBetween, approachFrom, approachTo, pinOf, pinAt, voyageFrom, voyageOf}

@@ -10,7 +10,7 @@ use Rattle.tables.specs.declared.lent.Tables.{Tables}
 use Rattle.legs.specs.Granted.{Granted}
 use Rattle.timeline_order.specs.Order.{Timely}
 use Rattle.calls.specs.Calls.{reportedOf, callRows}
-use Rattle.update_rows.specs.Updates.{bestRow}
+use Rattle.best_rows.specs.Serving.{bestRow}
 use Rattle.sailings.specs.Sailing.{sailingTrip}
 use Rattle.voyages.specs.Voyage.{Leg, Approach, none, over, Voyage}
 use Rattle.plans.specs.Plan.{voyageOf}

@@ -6,7 +6,7 @@ use mathlib.Core.Logic.{_⊎_}
 use Rattle.tables.specs.Pools.{Pools}
 use Rattle.tables.specs.declared.lent.Tables.{Tables}
 use Rattle.calls.specs.Calls.{reportedOf, callRows}
-use Rattle.update_rows.specs.Updates.{bestRow}
+use Rattle.best_rows.specs.Serving.{bestRow}
 use Rattle.sailings.specs.Sailing.{isCancelled}
 use Rattle.voyages.specs.Voyage.{unplaced}
 use Rattle.plans.specs.Plan.{pinAt}

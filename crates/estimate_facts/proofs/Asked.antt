@@ -26,9 +26,10 @@ use Rattle.timetable.specs.Timetable.{namedOf, planOf}
 use Rattle.timetable.proofs.Holds.{found-ready, in-reach}
 use Rattle.calls.specs.Calls.{reportedOf, callRows, callStops, callArrivals, callDepartures}
 use Rattle.calls.specs.Calls.{Ready as CallsReady}
-use Rattle.update_rows.specs.Updates.{isSet, isTimed, momentAt, momentOr, arrivalOf, departureOf, leastOf, firstBelow, firstDeparture}
-use Rattle.update_rows.specs.declared.first.Moment.{Moment}
-use Rattle.update_rows.specs.declared.first.Moment.the-variants.{At, Nothing}
+use Rattle.update_rows.specs.Updates.{isSet, isTimed, momentAt, momentOr, arrivalOf, departureOf}
+use Rattle.first_departures.specs.Firsts.{leastOf, firstBelow, firstDeparture}
+use Rattle.first_departures.specs.declared.first.Moment.{Moment}
+use Rattle.first_departures.specs.declared.first.Moment.the-variants.{At, Nothing}
 use Rattle.calls.proofs.Calls.{stops-count, call-row, call-found, call-timed}
 use Rattle.sailings.specs.Sailing.{clockOf, offsetOf, localAt, InTime}
 use Rattle.estimate_facts.proofs.Columns.{set-counts, time-between, moment-most, id-short}

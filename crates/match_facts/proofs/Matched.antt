@@ -26,7 +26,9 @@ use Rattle.made_ids.specs.Made.{builtOf}
 use Rattle.named_trips.specs.Named.{idTrip}
 use Rattle.trip_tails.specs.Tails.{tailRow, tailFirst, onlyTrip, tailTrip}
 use Rattle.trip_fits.specs.Fits.{away}
-use Rattle.trip_times.specs.Line.{rowFit, leastOf, bestOf, isCrowded, alone, lineTrip}
+use Rattle.line_fits.specs.Lines.{rowFit, leastOf, bestOf}
+use Rattle.line_crowds.specs.Crowds.{isCrowded}
+use Rattle.trip_times.specs.Line.{alone, lineTrip}
 use Rattle.trip_times.specs.Line.{tripAt as lineAt}
 use Rattle.trip_fits.specs.declared.fit.Count.{Count}
 use Rattle.trip_fits.specs.declared.fit.Fit.{Fit}

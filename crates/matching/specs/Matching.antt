@@ -10,7 +10,8 @@ use Rattle.tokens.specs.Tokens.{tokenOf}
 use Rattle.trip_aliases.specs.Aliases.{Known}
 use Rattle.named_trips.specs.Named.{idTrip}
 use Rattle.trip_tails.specs.Tails.{tailTrip}
-use Rattle.trip_times.specs.Line.{lineTrip, Planned, ShortTokens}
+use Rattle.line_fits.specs.Lines.{Planned}
+use Rattle.trip_times.specs.Line.{lineTrip, ShortTokens}
 use Rattle.trip_fits.specs.declared.fit.Count.{Count}
 use Rattle.trip_fits.specs.declared.fit.Plan.{Plan}
 use Rattle.matching.specs.declared.whole.Named.{Named}

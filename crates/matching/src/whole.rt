@@ -8,7 +8,8 @@ use trip_fits::Plan;
 use trip_tails::by_tail;
 use trip_times::by_token;
 ghost use mathlib.Core.Path.{_≡_};
-ghost use Rattle.trip_times.specs.Line.{Planned, ShortTokens};
+ghost use Rattle.line_fits.specs.Lines.{Planned};
+ghost use Rattle.trip_times.specs.Line.{ShortTokens};
 ghost use Rattle.matching.specs.Matching.{timedTrip, matchOf, Ready};
 
 // What a trip is found in by its id.

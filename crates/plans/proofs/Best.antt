@@ -5,8 +5,8 @@ use mathlib.Core.Path.{_≡_}
 use mathlib.Core.List.{List}
 use Rattle.ids.specs.declared.lookup.Found.the-variants.{At}
 use Rattle.tables.specs.declared.lent.Updates.{Updates}
-use Rattle.update_rows.specs.Updates.{bestRow, scoreOf}
-use Rattle.update_rows.proofs.Rows.{best-is}
+use Rattle.best_rows.specs.Serving.{bestRow, scoreOf}
+use Rattle.best_rows.proofs.Bests.{best-is}
 
 pub best-below : (bytes words : List ℕ) (u : Updates) (k : ℕ) → bestRow bytes u words ≡ At k → k < u .sequence .n
 unfolding bestRow

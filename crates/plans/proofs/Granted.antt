@@ -18,7 +18,7 @@ use Rattle.timeline.specs.Turn.{turnOf}
 use Rattle.timeline.specs.declared.turn.Turn.{Turn}
 use Rattle.timeline.specs.declared.turn.Turn.the-variants.{At as Alongside, Between}
 use Rattle.timeline_order.proofs.Says.{Says, turn-says}
-use Rattle.update_rows.specs.Updates.{firstDeparture}
+use Rattle.first_departures.specs.Firsts.{firstDeparture}
 use Rattle.sailings.specs.Sailing.{offsetOf, localAt, InTime, sailingTrip}
 use Rattle.leg_paths.specs.Leg.{legCount}
 use Rattle.estimate_facts.proofs.Asked.{trip-ready, first-in-time, first-in-reach}

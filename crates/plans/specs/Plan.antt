@@ -12,7 +12,7 @@ use Rattle.tables.specs.declared.lent.Tables.{Tables}
 use Rattle.trip_rows.specs.Rows.{stopPoint}
 use Rattle.trip_samples.specs.declared.course.Course.{Course}
 use Rattle.calls.specs.Calls.{reportedOf, updateStop, callRows, callStops, callArrivals, callDepartures}
-use Rattle.update_rows.specs.Updates.{bestRow}
+use Rattle.best_rows.specs.Serving.{bestRow}
 use Rattle.sailings.specs.Sailing.{isCancelled, sailingTrip}
 use Rattle.previous.specs.Before.{prevRow}
 use Rattle.previous.specs.Run.{runOf}

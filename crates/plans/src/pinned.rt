@@ -1,4 +1,5 @@
 // Without a call: at the best stop, if it can be placed. The Rust's `pin_at_best_stop`.
+use best_rows::best_row;
 use calls::Reported;
 use calls::update_stop;
 use ids::Found;
@@ -7,12 +8,11 @@ use paths::Status;
 use stop_rows::Lookup;
 use tables::Tables;
 use trip_rows::stop_point;
-use update_rows::best_row;
 use voyages::Outcome;
 use voyages::at_stop;
 ghost use mathlib.Core.Path.{_≡_};
 ghost use Rattle.calls.specs.Calls.{Ready, reportedOf};
-ghost use Rattle.update_rows.specs.Updates.{bestRow};
+ghost use Rattle.best_rows.specs.Serving.{bestRow};
 ghost use Rattle.plans.specs.Plan.{pinOf, pinAt};
 ghost use Rattle.voyages.specs.Outcome.{atPin};
 

@@ -12,9 +12,10 @@ use Rattle.tables.specs.declared.lent.Tables.{Tables}
 use Rattle.matching.specs.Matching.{matchOf}
 use Rattle.matching.specs.Moments.{todayOf, yesterdayOf}
 use Rattle.timetable.specs.Timetable.{namedOf, planOf}
-use Rattle.update_rows.specs.Updates.{isSet, momentAt, firstDeparture}
-use Rattle.update_rows.specs.declared.first.Moment.{Moment}
-use Rattle.update_rows.specs.declared.first.Moment.the-variants.{At, Nothing}
+use Rattle.update_rows.specs.Updates.{isSet, momentAt}
+use Rattle.first_departures.specs.Firsts.{firstDeparture}
+use Rattle.first_departures.specs.declared.first.Moment.{Moment}
+use Rattle.first_departures.specs.declared.first.Moment.the-variants.{At, Nothing}
 
 -- it is cancelled
 abbrev pub isCancelled : List ℕ → Sailing → Bool

@@ -1,6 +1,6 @@
 // What the row of a sailing says.
+use first_departures::Moment;
 use tables::Sailing;
-use update_rows::Moment;
 ghost use mathlib.Core.Path.{_≡_};
 ghost use Rattle.matching.specs.Moments.{InReach};
 ghost use Rattle.sailings.specs.Sailing.{isCancelled, clockOf, offsetOf, routeOf, departs, localAt, InTime};

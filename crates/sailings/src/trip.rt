@@ -3,6 +3,8 @@ use crate::row::has_departure;
 use crate::row::local;
 use crate::row::offset;
 use crate::row::route;
+use first_departures::Moment;
+use first_departures::first_departure;
 use ids::Found;
 use matching::Named;
 use matching::resolve;
@@ -10,13 +12,11 @@ use matching::today;
 use matching::yesterday;
 use tables::Tables;
 use trip_fits::Plan;
-use update_rows::Moment;
-use update_rows::first_departure;
 ghost use mathlib.Core.Path.{_≡_};
 ghost use Rattle.matching.specs.Matching.{Ready};
 ghost use Rattle.matching.specs.Moments.{InReach};
 ghost use Rattle.timetable.specs.Timetable.{namedOf, planOf};
-ghost use Rattle.update_rows.specs.Updates.{firstDeparture};
+ghost use Rattle.first_departures.specs.Firsts.{firstDeparture};
 ghost use Rattle.sailings.specs.Sailing.{InTime, offsetOf, localAt, tripFrom, sailingTrip};
 
 // Of a sailing whose first departure is this.

@@ -12,7 +12,8 @@ use Rattle.ieee.specs.Number.{absOf}
 use Rattle.calibration.specs.Scale.{decimal, firstNear, nearUnit}
 use Rattle.refs.specs.Refs.{journeyIdOf, afterColons, afterParts, afterKind, isKind, withoutLocPart}
 use Rattle.stop_digits.specs.Stops.{stopDigitsOf, digitsFirst, digitsLast, markedDigits}
-use Rattle.trip_times.specs.Line.{bestOf, beside, isCrowded}
+use Rattle.line_fits.specs.Lines.{bestOf}
+use Rattle.line_crowds.specs.Crowds.{beside, isCrowded}
 use Rattle.soundings.specs.Soundings.{Soundings}
 
 pub soundings : Soundings

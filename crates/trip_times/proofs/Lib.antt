@@ -1,2 +1,2 @@
--- `Best`: the row that fits best, and the rows of a line.
-pub mod Best
+-- `Long`: a text over 96 bytes is no line's token.
+pub mod Long

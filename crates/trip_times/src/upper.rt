@@ -6,7 +6,8 @@ use trip_fits::Plan;
 ghost use mathlib.Core.Path.{_≡_};
 ghost use mathlib.Core.List.{map};
 ghost use Rattle.ids.specs.Bytes.{upperOf};
-ghost use Rattle.trip_times.specs.Line.{lineTrip, Planned, ShortTokens};
+ghost use Rattle.line_fits.specs.Lines.{Planned};
+ghost use Rattle.trip_times.specs.Line.{lineTrip, ShortTokens};
 
 // The trip of the line whose token this is in upper case. No token is over 96 bytes, so that a longer one has no line.
 pub fn by_token(

@@ -1,3 +1,3 @@
--- `Rows`: rows that pass a test, and the best of rows. `Updates`: what a row of the updates says.
+-- `Rows`: rows that pass a test. `Updates`: what a row of the updates says.
 pub mod Rows
 pub mod Updates

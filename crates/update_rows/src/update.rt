@@ -5,7 +5,7 @@ ghost use Prim.Native.Nat.{_+_};
 ghost use mathlib.Core.Path.{_≡_};
 ghost use lib.IntN.{pos};
 ghost use lib.ListN.{getD};
-ghost use Rattle.update_rows.specs.Updates.{momentOf, momentAt, isSet, momentOr, isTimed, hasSignal};
+ghost use Rattle.update_rows.specs.Updates.{momentOf, momentAt, isSet, momentOr, isTimed};
 
 // Whether row k of a column of flags is set.
 pub fn is_set(bytes: &[u8], span: Span, k: usize) -> bool
@@ -68,19 +68,4 @@ pub fn is_timed(bytes: &[u8], u: Updates, k: usize) -> bool
         return true;
     }
     is_set(bytes, departs, k)
-}
-
-// Whether row k has a time or a delay.
-pub fn has_signal(bytes: &[u8], u: Updates, k: usize) -> bool
-    ensures { λ r. ⌜ r ≡ hasSignal (now (bytes .entry)) u k ⌝ }
-{
-    let arrivals = u.arrdelayed;
-    let departures = u.depdelayed;
-    if is_timed(bytes, u, k) {
-        return true;
-    }
-    if is_set(bytes, arrivals, k) {
-        return true;
-    }
-    is_set(bytes, departures, k)
 }

@@ -4,7 +4,7 @@ use mathlib.Core.Path.{_∙_, ap, sym, subst}
 use lib.IntN.{pos}
 use Rattle.matching.specs.Moments.{InReach}
 use Rattle.asked_journey.proofs.Sums.{sum-fits, sum-read}
-use Rattle.update_rows.specs.declared.first.Moment.{Moment}
+use Rattle.first_departures.specs.declared.first.Moment.{Moment}
 use Rattle.sailings.specs.Sailing.{InTime, localAt}
 use Rattle.sailings.proofs.row.local.Statement.{statement}
 use Rattle.sailings.proofs.row.local.Tie as tie

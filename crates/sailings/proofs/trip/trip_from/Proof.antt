@@ -5,7 +5,7 @@ use mir.Syntax.{w64}
 use mir.Val.{SFits, toZ, ofZ}
 use mir.Facts.{toZ-ofZ}
 use Rattle.matching.specs.Moments.{InReach}
-use Rattle.update_rows.specs.declared.first.Moment.{Moment}
+use Rattle.first_departures.specs.declared.first.Moment.{Moment}
 use Rattle.sailings.specs.Sailing.{localAt, tripFrom}
 use Rattle.sailings.proofs.trip.trip_from.Statement.{statement}
 use Rattle.sailings.proofs.trip.trip_from.Tie as tie

@@ -1,14 +1,14 @@
 use borrow.Author.Needs.{needs}
 use mathlib.Core.Path.{_∙_, sym}
 use Rattle.trip_times.specs.Line.{lineTrip}
-use Rattle.trip_times.proofs.Best.{best-on-line, on-line-fit}
+use Rattle.line_fits.proofs.Best.{best-on-line, on-line-fit}
 use Rattle.trip_times.proofs.line.by_line.Statement.{statement}
 use Rattle.trip_times.proofs.line.by_line.Tie as tie
 use Rattle.ids.proofs.cell.Reads as cell-reads
-use Rattle.trip_times.proofs.line.best_of.Reads as best-of-reads
-use Rattle.trip_times.proofs.line.crowded.Reads as crowded-reads
-use Rattle.trip_times.proofs.line.first_on_line.Reads as first-on-line-reads
-use Rattle.trip_times.proofs.line.fit_at.Reads as fit-at-reads
+use Rattle.line_fits.proofs.best_of.Reads as best-of-reads
+use Rattle.line_crowds.proofs.crowded.Reads as crowded-reads
+use Rattle.line_fits.proofs.first_on_line.Reads as first-on-line-reads
+use Rattle.line_fits.proofs.fit_at.Reads as fit-at-reads
 
 first-on-line-requires : tie.Need-first-on-line-requires
 first-on-line-requires c κs = search needs

@@ -8,7 +8,7 @@ use lib.ListN.{length-map}
 use lib.Seq.{length-take-le}
 use Rattle.ids.specs.Bytes.{upperOf}
 use Rattle.trip_times.specs.Line.{lineTrip}
-use Rattle.trip_times.proofs.Best.{too-long}
+use Rattle.trip_times.proofs.Long.{too-long}
 use Rattle.trip_times.proofs.upper.by_token.Statement.{statement}
 use Rattle.trip_times.proofs.upper.by_token.Tie as tie
 

@@ -1,0 +1,2 @@
+-- `Bests`: the best of rows.
+pub mod Bests

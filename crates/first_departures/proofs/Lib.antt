@@ -1,0 +1,2 @@
+-- `Earliest`: the first departure of rows.
+pub mod Earliest

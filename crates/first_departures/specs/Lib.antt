@@ -1,0 +1,2 @@
+-- `Firsts`: the first departure of the updates.
+pub mod Firsts

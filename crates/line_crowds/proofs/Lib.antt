@@ -1,0 +1,2 @@
+-- `Beside`: rows beside another.
+pub mod Beside

@@ -1,0 +1,2 @@
+-- `Lines`: the row of a line that fits best.
+pub mod Lines
