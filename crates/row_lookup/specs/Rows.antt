@@ -1,4 +1,4 @@
--- Rows of a table that ascend, and the place of a key among them. A key has parts, as in columns/specs/Order.antt; a date's part is its day.
+-- Rows of a table that ascend, and the place of a key among them. A key has parts, as in column_order/specs/Order.antt; a date's part is its day.
 use Prim.Native.Nat.{ℕ, _<_}
 use mathlib.Core.Path.{_≡_}
 use mathlib.Core.Bool.{Bool, true, false}
