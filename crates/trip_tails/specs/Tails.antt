@@ -8,6 +8,7 @@ use Rattle.ids.specs.First.{first}
 use Rattle.ids.specs.Pool.{cellOf, idOf}
 use Rattle.ids.specs.declared.lookup.Found.{Found}
 use Rattle.ids.specs.declared.lookup.Found.the-variants.{At, Nothing}
+use Rattle.texts.specs.Texts.{suffixOf, holds}
 use Rattle.key_parts.specs.Keys.{tailOf}
 use Rattle.tables.specs.declared.lent.IdRows.{IdRows}
 use Rattle.trip_ids.specs.Trips.{tripAt, unless}
