@@ -4,8 +4,8 @@
 ghost use mathlib.Core.Path.{_≡_};
 ghost use Prim.Native.Nat.{_≤_};
 ghost use lib.ListN.{length};
-ghost use Rattle.trip_records.specs.Records.{coreD, coreK, laidR, laidA, laidD, laidK};
-ghost use Rattle.trip_records.specs.Answers.{codeOf, recordsAfter, stopsAfter, distsAfter, marksAfter};
+ghost use Rattle.filled_records.specs.Records.{coreD, coreK, laidR, laidA, laidD, laidK};
+ghost use Rattle.filled_records.specs.Answers.{codeOf, recordsAfter, stopsAfter, distsAfter, marksAfter};
 use backfill::backfill_rows;
 use ids::Span;
 use record_faults::Faults;

@@ -2,7 +2,7 @@ use borrow.Author.Needs.{needs}
 use native.Mathlib.Omega.{arith}
 use mathlib.Core.Path.{sym}
 use lib.Seq.{length-take-le}
-use Rattle.trip_records.proofs.Laid.{core-is}
+use Rattle.filled_records.proofs.Laid.{core-is}
 use Rattle.trip_records.proofs.core.Statement.{statement}
 use Rattle.trip_records.proofs.core.Tie as tie
 

@@ -53,8 +53,8 @@ use Rattle.records.proofs.StopTime as T
 use Rattle.record_refusals.specs.declared.Lent.{Lent}
 use Rattle.record_refusals.proofs.Lent as Lt
 use Rattle.record_refusals.proofs.Lent.Laws as Lt′
-use Rattle.trip_records.specs.Records.{laidR, laidA, colD, colK, laidD, laidK}
-use Rattle.trip_records.proofs.Laid.{dists-long, marks-long}
+use Rattle.filled_records.specs.Records.{laidR, laidA, colD, colK, laidD, laidK}
+use Rattle.filled_records.proofs.Laid.{dists-long, marks-long}
 use Rattle.records.proofs.stops_of as stops-of
 use Rattle.records.proofs.stops_of.Symbol as stops-of-def
 use Rattle.records.proofs.stops_of.Symbol.{name as #records·stops_of}

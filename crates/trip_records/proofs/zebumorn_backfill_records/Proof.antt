@@ -64,10 +64,10 @@ use Rattle.record_faults.specs.declared.Faults.{Faults}
 use Rattle.record_faults.proofs.Faults as S
 use Rattle.record_faults.proofs.Faults.Laws as S′
 use Rattle.record_refusals.specs.Verdict.{lentCauses, verdictOf}
-use Rattle.trip_records.specs.Records.{laidR, laidA, laidD, laidK}
-use Rattle.trip_records.specs.Answers.{codeOf, recordsAfter, stopsAfter, distsAfter, marksAfter}
-use Rattle.trip_records.proofs.Laid.{dists-long, marks-long}
-use Rattle.trip_records.proofs.Told.{code-is, stay, bounds, written}
+use Rattle.filled_records.specs.Records.{laidR, laidA, laidD, laidK}
+use Rattle.filled_records.specs.Answers.{codeOf, recordsAfter, stopsAfter, distsAfter, marksAfter}
+use Rattle.filled_records.proofs.Laid.{dists-long, marks-long}
+use Rattle.filled_records.proofs.Told.{code-is, stay, bounds, written}
 use Rattle.record_faults.proofs.scan as scan
 use Rattle.record_faults.proofs.scan.Symbol as scan-def
 use Rattle.record_faults.proofs.scan.Symbol.{name as #record_faults·scan}

@@ -14,7 +14,7 @@ use Rattle.records.specs.Records.{fillRow}
 use Rattle.records.specs.declared.StopTime.{StopTime}
 use Rattle.record_faults.specs.Faults.{fold, start, stepOf}
 use Rattle.record_refusals.specs.Verdict.{lentCauses, verdictOf}
-use Rattle.trip_records.specs.Records.{recordFilled}
+use Rattle.filled_records.specs.Records.{recordFilled}
 use Rattle.record_refusals.specs.declared.Lent.{Lent}
 
 module _ (rs : List StopTime) (bytes words : List ℕ) (reals : List Float) (l : Lent) (ats : List ℕ) (ds : List Float) (ks : List ℕ) where

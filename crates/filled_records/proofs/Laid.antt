@@ -19,7 +19,7 @@ use Rattle.backfill.proofs.Filling.{backfill-count}
 use Rattle.records.specs.Rows.{each, mapTo}
 use Rattle.records.specs.Records.{none, fillRow, flagOf}
 use Rattle.records.specs.declared.StopTime.{StopTime}
-use Rattle.trip_records.specs.Records.{lentLine, recordStops, recordRows, recordFilled, ownCalls, coreRows, coreD, coreK, laidA, colD, colK, laidD, laidK, laidR}
+use Rattle.filled_records.specs.Records.{lentLine, recordStops, recordRows, recordFilled, ownCalls, coreRows, coreD, coreK, laidA, colD, colK, laidD, laidK, laidR}
 use Rattle.record_refusals.specs.declared.Lent.{Lent}
 
 abbrev stopOf : StopTime → ℕ

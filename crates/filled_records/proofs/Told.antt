@@ -12,10 +12,10 @@ use Rattle.record_faults.specs.Faults.{fold, start, stepOf}
 use Rattle.record_faults.specs.declared.Faults.{Faults}
 use Rattle.records.specs.declared.StopTime.{StopTime}
 use Rattle.record_refusals.specs.Verdict.{lentCauses, verdictOf}
-use Rattle.trip_records.specs.Records.{laidR, laidA, laidD, laidK}
-use Rattle.trip_records.specs.Answers.{codeOf, recordsAfter, stopsAfter, distsAfter, marksAfter}
+use Rattle.filled_records.specs.Records.{laidR, laidA, laidD, laidK}
+use Rattle.filled_records.specs.Answers.{codeOf, recordsAfter, stopsAfter, distsAfter, marksAfter}
 use Rattle.record_refusals.specs.declared.Lent.{Lent}
-use Rattle.trip_records.proofs.Laid.{stops-laid, dists-laid, marks-laid, records-laid}
+use Rattle.filled_records.proofs.Laid.{stops-laid, dists-laid, marks-laid, records-laid}
 use Rattle.record_refusals.proofs.Refused.{passed}
 
 module _ (rs : List StopTime) (bytes words : List ℕ) (reals : List Float) (l : Lent) (ats : List ℕ) (ds : List Float) (ks : List ℕ) where
