@@ -9,7 +9,7 @@ use mir.Syntax.{w64}
 use mir.Val.{SFits, toZ, ofZ}
 use mir.Facts.{toZ-ofZ}
 use Rattle.tables.specs.declared.lent.Journey.{Journey}
-use Rattle.matching.specs.Moments.{InReach}
+use Rattle.moments.specs.Moments.{InReach}
 use Rattle.asked_journey.specs.Journeys.{timeOf, departsOf, localOf}
 
 reach-fits : (z : ℤ) → InReach z → SFits w64 z

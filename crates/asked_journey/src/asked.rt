@@ -2,7 +2,7 @@
 use ids::Span;
 use tables::Journey;
 ghost use mathlib.Core.Path.{_≡_};
-ghost use Rattle.matching.specs.Moments.{InReach};
+ghost use Rattle.moments.specs.Moments.{InReach};
 ghost use Rattle.asked_journey.specs.Journeys.{timeOf, routeOf, departsOf, localOf};
 
 // The first time of a column, or 0 past the end of the pool.

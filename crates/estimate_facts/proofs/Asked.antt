@@ -21,7 +21,7 @@ use Rattle.update_rules.proofs.Parts.{update-stops, arrivals-between, update-de
 use Rattle.checks.specs.Operations.{estimateCauses}
 use Rattle.checks.proofs.Operations.{Estimate, estimate-holds}
 use Rattle.matching.specs.Matching.{Ready}
-use Rattle.matching.specs.Moments.{InReach}
+use Rattle.moments.specs.Moments.{InReach}
 use Rattle.timetable.specs.Timetable.{namedOf, planOf}
 use Rattle.timetable.proofs.Holds.{found-ready, in-reach}
 use Rattle.calls.specs.Calls.{reportedOf, callRows, callStops, callArrivals, callDepartures}

@@ -1,3 +1,2 @@
--- `Tokens`: a journey with a token, and one without. `Counts`: the counts of a moment.
+-- `Tokens`: a journey with a token, and one without.
 pub mod Tokens
-pub mod Counts

@@ -1,3 +1,2 @@
--- `Matching`: the trip that a journey stands for. `Moments`: a moment as two counts.
+-- `Matching`: the trip that a journey stands for.
 pub mod Matching
-pub mod Moments

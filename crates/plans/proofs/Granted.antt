@@ -12,7 +12,7 @@ use Rattle.refusals.specs.Refuse.{refusalOf}
 use Rattle.tables.specs.declared.lent.Tables.{Tables}
 use Rattle.checks.specs.Operations.{estimateCauses}
 use Rattle.matching.specs.Matching.{Ready}
-use Rattle.matching.specs.Moments.{InReach}
+use Rattle.moments.specs.Moments.{InReach}
 use Rattle.timetable.specs.Timetable.{namedOf, planOf}
 use Rattle.timeline.specs.Turn.{turnOf}
 use Rattle.timeline.specs.declared.turn.Turn.{Turn}

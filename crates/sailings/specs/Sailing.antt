@@ -10,7 +10,7 @@ use Rattle.key_parts.specs.Keys.{baseOf}
 use Rattle.tables.specs.declared.lent.Sailing.{Sailing}
 use Rattle.tables.specs.declared.lent.Tables.{Tables}
 use Rattle.matching.specs.Matching.{matchOf}
-use Rattle.matching.specs.Moments.{todayOf, yesterdayOf}
+use Rattle.moments.specs.Moments.{todayOf, yesterdayOf}
 use Rattle.timetable.specs.Timetable.{namedOf, planOf}
 use Rattle.update_rows.specs.Updates.{isSet, momentAt}
 use Rattle.first_departures.specs.Firsts.{firstDeparture}

@@ -2,7 +2,7 @@
 use first_departures::Moment;
 use tables::Sailing;
 ghost use mathlib.Core.Path.{_≡_};
-ghost use Rattle.matching.specs.Moments.{InReach};
+ghost use Rattle.moments.specs.Moments.{InReach};
 ghost use Rattle.sailings.specs.Sailing.{isCancelled, clockOf, offsetOf, routeOf, departs, localAt, InTime};
 
 // Whether it is cancelled.

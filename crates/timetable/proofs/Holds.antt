@@ -23,7 +23,7 @@ use Rattle.checks.specs.Operations.{matchingCauses}
 use Rattle.checks.proofs.Operations.{Calendar, Lookup, Matching, matching-holds}
 use Rattle.row_lookup.proofs.Ascends.{lines-in-order}
 use Rattle.matching.specs.Matching.{Ready}
-use Rattle.matching.specs.Moments.{InReach}
+use Rattle.moments.specs.Moments.{InReach}
 use Rattle.asked_journey.specs.Journeys.{timeOf, departsOf, localOf}
 use Rattle.service_days.proofs.Holds.{calendared}
 use Rattle.timetable.specs.Timetable.{namedOf, planOf}

@@ -8,7 +8,7 @@ use Rattle.tables.specs.declared.lent.Journey.{Journey}
 use Rattle.tables.specs.declared.lent.Tables.{Tables}
 use Rattle.trip_fits.specs.declared.fit.Plan.{Plan}
 use Rattle.matching.specs.Matching.{matchOf}
-use Rattle.matching.specs.Moments.{todayOf, yesterdayOf}
+use Rattle.moments.specs.Moments.{todayOf, yesterdayOf}
 use Rattle.matching.specs.declared.whole.Named.{Named}
 use Rattle.asked_journey.specs.Journeys.{routeOf, departsOf, localOf}
 

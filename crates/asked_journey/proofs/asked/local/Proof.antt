@@ -1,5 +1,5 @@
 use mathlib.Core.Path.{_∙_, subst, sym}
-use Rattle.matching.specs.Moments.{InReach}
+use Rattle.moments.specs.Moments.{InReach}
 use Rattle.asked_journey.specs.Journeys.{localOf}
 use Rattle.asked_journey.proofs.Sums.{summed, sum-fits, sum-read}
 use Rattle.asked_journey.proofs.asked.local.Statement.{statement}

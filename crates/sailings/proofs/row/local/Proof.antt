@@ -2,7 +2,7 @@
 use borrow.Author.Needs.{needs}
 use mathlib.Core.Path.{_∙_, ap, sym, subst}
 use lib.IntN.{pos}
-use Rattle.matching.specs.Moments.{InReach}
+use Rattle.moments.specs.Moments.{InReach}
 use Rattle.asked_journey.proofs.Sums.{sum-fits, sum-read}
 use Rattle.first_departures.specs.declared.first.Moment.{Moment}
 use Rattle.sailings.specs.Sailing.{InTime, localAt}

@@ -4,7 +4,7 @@ use lib.IntN.{ℤ}
 use mir.Syntax.{w64}
 use mir.Val.{SFits, toZ, ofZ}
 use mir.Facts.{toZ-ofZ}
-use Rattle.matching.specs.Moments.{InReach}
+use Rattle.moments.specs.Moments.{InReach}
 use Rattle.first_departures.specs.declared.first.Moment.{Moment}
 use Rattle.sailings.specs.Sailing.{localAt, tripFrom}
 use Rattle.sailings.proofs.trip.trip_from.Statement.{statement}

@@ -1,7 +1,7 @@
 use borrow.Author.Needs.{needs}
 use mathlib.Core.Path.{_∙_, sym, subst}
 use mir.Facts.{toZ-ofZ}
-use Rattle.matching.specs.Moments.{InReach}
+use Rattle.moments.specs.Moments.{InReach}
 use Rattle.timetable.specs.Timetable.{journeyTrip}
 use Rattle.timetable.proofs.matched.trip_of.Statement.{statement}
 use Rattle.timetable.proofs.matched.trip_of.Tie as tie

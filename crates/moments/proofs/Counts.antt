@@ -10,7 +10,7 @@ use mir.Val.{Fits, SFits}
 use mir.Facts.{toZ-ofZ}
 use Rattle.days.specs.Service.{serviceDayOf}
 use Rattle.days.proofs.Signed.{back}
-use Rattle.matching.specs.Moments.{InReach, todayOf}
+use Rattle.moments.specs.Moments.{InReach, todayOf}
 
 -- the day, the day's ordinal and the second, of a moment in reach
 day-small : (z : ℤ) → InReach z → mag (serviceDayOf z .day) < 2 ^ 62

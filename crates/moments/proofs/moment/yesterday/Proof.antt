@@ -2,10 +2,10 @@ use borrow.Author.Needs.{needs}
 use native.Mathlib.Omega.{arith}
 use mathlib.Core.Path.{_≡_, _∙_, ap}
 use mir.Facts.{toZ-ofZ}
-use Rattle.matching.specs.Moments.{todayOf, yesterdayOf}
-use Rattle.matching.proofs.Counts.{ordinal-small, second-small}
-use Rattle.matching.proofs.moment.yesterday.Statement.{statement}
-use Rattle.matching.proofs.moment.yesterday.Tie as tie
+use Rattle.moments.specs.Moments.{todayOf, yesterdayOf}
+use Rattle.moments.proofs.Counts.{ordinal-small, second-small}
+use Rattle.moments.proofs.moment.yesterday.Statement.{statement}
+use Rattle.moments.proofs.moment.yesterday.Tie as tie
 
 counts : (c : tie.After-today) → c .today .result ≡ todayOf (c .before .args .local)
 counts c = c .today .ensures ∙ ap todayOf (toZ-ofZ (c .before .fits .local))

@@ -2,7 +2,7 @@
 use days::ServiceDay;
 use trip_fits::Count;
 ghost use mathlib.Core.Path.{_≡_};
-ghost use Rattle.matching.specs.Moments.{todayOf, yesterdayOf, InReach};
+ghost use Rattle.moments.specs.Moments.{todayOf, yesterdayOf, InReach};
 
 // The moment in its own service day, whose ordinal is 719,163 more than its number.
 pub fn today(local: i64) -> Count

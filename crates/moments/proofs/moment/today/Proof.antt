@@ -3,9 +3,9 @@ use native.Mathlib.Omega.{arith}
 use mathlib.Core.Path.{_≡_, _∙_, ap}
 use mir.Facts.{toZ-ofZ}
 use Rattle.days.specs.Service.{serviceDayOf}
-use Rattle.matching.proofs.Counts.{ordinal-read, ordinal-small, second-read, second-small, sum-fits, unsigned}
-use Rattle.matching.proofs.moment.today.Statement.{statement}
-use Rattle.matching.proofs.moment.today.Tie as tie
+use Rattle.moments.proofs.Counts.{ordinal-read, ordinal-small, second-read, second-small, sum-fits, unsigned}
+use Rattle.moments.proofs.moment.today.Statement.{statement}
+use Rattle.moments.proofs.moment.today.Tie as tie
 
 splits : (c : tie.After-at) → c .at .result ≡ serviceDayOf (c .before .args .local)
 splits c = c .at .ensures .0 ∙ ap serviceDayOf (toZ-ofZ (c .before .fits .local))

@@ -1,0 +1,2 @@
+-- `Counts`: the counts of a moment.
+pub mod Counts

@@ -1,0 +1,2 @@
+-- `Moments`: a moment as two counts.
+pub mod Moments
