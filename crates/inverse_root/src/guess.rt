@@ -1,8 +1,6 @@
 // A guess at one over the root.
-use crate::cubics::constant;
-use crate::cubics::cubed;
-use crate::cubics::linear;
-use crate::cubics::squared;
+use crate::cubics::constant_and_cubed;
+use crate::cubics::linear_and_squared;
 use std::num::wrapping_add_u64;
 use std::num::wrapping_sub_u64;
 
@@ -12,6 +10,9 @@ pub fn inverse(b: u64) -> u64 {
     let t = b / 262144 % 268435456;
     let tt = t * t / 268435456;
     let ttt = tt * t / 268435456;
-    let more = wrapping_add_u64(constant(i), squared(i) as u64 * tt);
-    wrapping_sub_u64(more, linear(i) as u64 * t + cubed(i) as u64 * ttt)
+    let ends = constant_and_cubed(i);
+    let middle = linear_and_squared(i);
+    let linear = middle / 8388608 % 4294967296;
+    let more = wrapping_add_u64(ends, middle % 8388608 * tt);
+    wrapping_sub_u64(more, linear * t + ends % 131072 * ttt)
 }

@@ -31,50 +31,37 @@ mul-tt c = let b = c .args .b in omega (arith, part-product (t b) (t b) (t-small
 mul-ttt : tie.Need-mul-ttt
 mul-ttt c = let b = c .args .b in omega (arith, part-product (tt' b) (t b) (tt-small b) (t-small b))
 
-constant-requires : tie.Need-constant-requires
-constant-requires c κs = search needs
+constant-and-cubed-requires : tie.Need-constant-and-cubed-requires
+constant-and-cubed-requires c κs = search needs
 
-squared-requires : tie.Need-squared-requires
-squared-requires c κs = search needs
-
-cast-wrapping-add-u64 : tie.Need-cast-wrapping-add-u64
-cast-wrapping-add-u64 c = search needs
+linear-and-squared-requires : tie.Need-linear-and-squared-requires
+linear-and-squared-requires c κs = search needs
 
 mul-wrapping-add-u64 : tie.Need-mul-wrapping-add-u64
-mul-wrapping-add-u64 c = let b = c .before .before .args .b in omega (arith, part-scaled (c .squared .result) (tt' b) (c .squared .ok) (tt-small b))
+mul-wrapping-add-u64 c =
+    let b = c .before .before .args .b in
+    omega (arith, part-scaled (c .linear-and-squared .result % 8388608) (tt' b) (omega arith) (tt-small b))
 
 wrapping-add-u64-requires : tie.Need-wrapping-add-u64-requires
 wrapping-add-u64-requires c κs = search needs
 
-linear-requires : tie.Need-linear-requires
-linear-requires c κs = search needs
-
-cast-wrapping-sub-u64 : tie.Need-cast-wrapping-sub-u64
-cast-wrapping-sub-u64 c = search needs
-
 mul-wrapping-sub-u64 : tie.Need-mul-wrapping-sub-u64
 mul-wrapping-sub-u64 c =
-    let b = c .before .before .before .before .args .b in
-    omega (arith, part-scaled (c .linear .result) (t b) (c .linear .ok) (t-small b))
-
-cubed-requires : tie.Need-cubed-requires
-cubed-requires c κs = search needs
-
-cast-wrapping-sub-u64-2 : tie.Need-cast-wrapping-sub-u64-2
-cast-wrapping-sub-u64-2 c = search needs
+    let b = c .before .before .before .args .b in
+    omega (arith, part-scaled (c .before .linear-and-squared .result / 8388608 % 4294967296) (t b) (omega arith) (t-small b))
 
 mul-wrapping-sub-u64-2 : tie.Need-mul-wrapping-sub-u64-2
 mul-wrapping-sub-u64-2 c =
-    let b = c .before .before .before .before .before .args .b in
-    omega (arith, part-scaled (c .cubed .result) (ttt b) (c .cubed .ok) (ttt-small b))
+    let b = c .before .before .before .args .b in
+    omega (arith, part-scaled (c .before .before .constant-and-cubed .result % 131072) (ttt b) (omega arith) (ttt-small b))
 
 add-wrapping-sub-u64 : tie.Need-add-wrapping-sub-u64
 add-wrapping-sub-u64 c =
-    let b = c .before .before .before .before .before .args .b in
+    let b = c .before .before .before .args .b in
     omega (
       arith,
-      part-scaled (c .cubed .result) (ttt b) (c .cubed .ok) (ttt-small b),
-      part-scaled (c .before .linear .result) (t b) (c .before .linear .ok) (t-small b),
+      part-scaled (c .before .before .constant-and-cubed .result % 131072) (ttt b) (omega arith) (ttt-small b),
+      part-scaled (c .before .linear-and-squared .result / 8388608 % 4294967296) (t b) (omega arith) (t-small b),
     )
 
 wrapping-sub-u64-requires : tie.Need-wrapping-sub-u64-requires
@@ -89,16 +76,11 @@ inverse-spec =
     (tie.spec
     mul-tt
     mul-ttt
-    constant-requires
-    squared-requires
-    cast-wrapping-add-u64
+    constant-and-cubed-requires
+    linear-and-squared-requires
     mul-wrapping-add-u64
     wrapping-add-u64-requires
-    linear-requires
-    cast-wrapping-sub-u64
     mul-wrapping-sub-u64
-    cubed-requires
-    cast-wrapping-sub-u64-2
     mul-wrapping-sub-u64-2
     add-wrapping-sub-u64
     wrapping-sub-u64-requires
