@@ -12,7 +12,7 @@ use Rattle.named_trips.specs.Named.{idTrip}
 use Rattle.trip_tails.specs.Tails.{tailTrip}
 use Rattle.line_fits.specs.Lines.{Planned}
 use Rattle.trip_times.specs.Line.{lineTrip, ShortTokens}
-use Rattle.trip_fits.specs.declared.fit.Count.{Count}
+use Rattle.departure_fits.specs.declared.departure.Count.{Count}
 use Rattle.trip_fits.specs.declared.fit.Plan.{Plan}
 use Rattle.matching.specs.declared.whole.Named.{Named}
 

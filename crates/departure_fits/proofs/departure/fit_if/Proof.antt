@@ -1,6 +1,6 @@
 use borrow.Author.Needs.{needs}
-use Rattle.trip_fits.proofs.fit.fit_if.Statement.{statement}
-use Rattle.trip_fits.proofs.fit.fit_if.Tie as tie
+use Rattle.departure_fits.proofs.departure.fit_if.Statement.{statement}
+use Rattle.departure_fits.proofs.departure.fit_if.Tie as tie
 
 returns : tie.Need-returns
 returns c = rw (c .if1 .taken)

@@ -12,7 +12,7 @@ use mir.Facts.{toZ-ofZ, toZ-pos}
 use Rattle.days.specs.Service.{Near, apart}
 use Rattle.days.proofs.Apart.{apart-size, not-negative}
 use Rattle.days.proofs.Signed.{back, mag-sub, sub-fits}
-use Rattle.trip_fits.specs.Fits.{since}
+use Rattle.departure_fits.specs.Departures.{since}
 
 -- a number of 32 bits, read as a signed one of 64
 pub as-signed : (s : ℕ) → Fits w32 s → toZ w64 s ≡ pos s

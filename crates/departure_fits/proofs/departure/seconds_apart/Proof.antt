@@ -1,8 +1,8 @@
 use borrow.Author.Needs.{needs}
 use mathlib.Core.Path.{_∙_}
-use Rattle.trip_fits.proofs.Since.{read, sinces-near, size, unsigned}
-use Rattle.trip_fits.proofs.fit.seconds_apart.Statement.{statement}
-use Rattle.trip_fits.proofs.fit.seconds_apart.Tie as tie
+use Rattle.departure_fits.proofs.Since.{read, sinces-near, size, unsigned}
+use Rattle.departure_fits.proofs.departure.seconds_apart.Statement.{statement}
+use Rattle.departure_fits.proofs.departure.seconds_apart.Tie as tie
 
 seconds-since-requires : tie.Need-seconds-since-requires
 seconds-since-requires c κs = search needs

@@ -1,6 +1,6 @@
 use borrow.Author.Needs.{needs}
-use Rattle.trip_fits.proofs.fit.are_near.Statement.{statement}
-use Rattle.trip_fits.proofs.fit.are_near.Tie as tie
+use Rattle.departure_fits.proofs.departure.are_near.Statement.{statement}
+use Rattle.departure_fits.proofs.departure.are_near.Tie as tie
 
 enum-told : tie.Need-enum-told
 enum-told c = search needs

@@ -1,7 +1,7 @@
 use borrow.Author.Needs.{needs}
 use borrow.Author.Tests.{le-ltb, lt-ltb}
-use Rattle.trip_fits.proofs.fit.nearer_of.Statement.{statement}
-use Rattle.trip_fits.proofs.fit.nearer_of.Tie as tie
+use Rattle.departure_fits.proofs.departure.nearer_of.Statement.{statement}
+use Rattle.departure_fits.proofs.departure.nearer_of.Tie as tie
 
 enum-told : tie.Need-enum-told
 enum-told c = search needs

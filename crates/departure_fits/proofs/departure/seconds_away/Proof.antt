@@ -1,8 +1,8 @@
 use borrow.Author.Needs.{needs}
 use mathlib.Core.Path.{_∙_}
-use Rattle.trip_fits.proofs.Since.{as-signed, counts-near, unsigned, size}
-use Rattle.trip_fits.proofs.fit.seconds_away.Statement.{statement}
-use Rattle.trip_fits.proofs.fit.seconds_away.Tie as tie
+use Rattle.departure_fits.proofs.Since.{as-signed, counts-near, unsigned, size}
+use Rattle.departure_fits.proofs.departure.seconds_away.Statement.{statement}
+use Rattle.departure_fits.proofs.departure.seconds_away.Tie as tie
 
 cast-delta : tie.Need-cast-delta
 cast-delta c = search needs

@@ -1,8 +1,8 @@
 use borrow.Author.Needs.{needs}
 use mir.Facts.{toZ-ofZ}
-use Rattle.trip_fits.proofs.Since.{as-signed, since-fits}
-use Rattle.trip_fits.proofs.fit.seconds_since.Statement.{statement}
-use Rattle.trip_fits.proofs.fit.seconds_since.Tie as tie
+use Rattle.departure_fits.proofs.Since.{as-signed, since-fits}
+use Rattle.departure_fits.proofs.departure.seconds_since.Statement.{statement}
+use Rattle.departure_fits.proofs.departure.seconds_since.Tie as tie
 
 cast-result : tie.Need-cast-result
 cast-result c = search needs
