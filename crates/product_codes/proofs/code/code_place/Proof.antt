@@ -1,4 +1,4 @@
--- `refs::token::code_place` meets its contract. The loop's invariant: no code begins so far.
+-- `product_codes::code::code_place` meets its contract. The loop's invariant: no code begins so far.
 use borrow.Author.Count.{below-more, below-none}
 use native.Mathlib.Omega.{arith}
 use Prim.Native.Nat.{_-_, _<_, _≤_, ℕ}
@@ -6,9 +6,9 @@ use mathlib.Core.Bool.{false}
 use mathlib.Core.Path.{_∙_, _≡_, sym}
 use lib.ListN.{length}
 use Rattle.ids.proofs.Search.{first-hit, first-miss}
-use Rattle.tokens.specs.Tokens.{codeAt}
-use Rattle.tokens.proofs.token.code_place.Statement.{statement}
-use Rattle.tokens.proofs.token.code_place.Tie as tie
+use Rattle.product_codes.specs.Codes.{codeAt}
+use Rattle.product_codes.proofs.code.code_place.Statement.{statement}
+use Rattle.product_codes.proofs.code.code_place.Tie as tie
 
 abbrev Inv-loop : tie.InvT-loop
 Inv-loop s k₀ k = (k ≤ length s) × ((j : ℕ) → j < k → codeAt s j ≡ false)

@@ -1,11 +1,11 @@
 use borrow.Author.Needs.{needs}
-use Rattle.tokens.specs.Tokens.{lineWord}
-use Rattle.tokens.proofs.token.line_word.Statement.{statement}
-use Rattle.tokens.proofs.token.line_word.Tie as tie
+use Rattle.product_codes.specs.Codes.{lineWord}
+use Rattle.product_codes.proofs.code.line_word.Statement.{statement}
+use Rattle.product_codes.proofs.code.line_word.Tie as tie
 use Rattle.texts.proofs.first_place_ignoring_case.Reads as first-place-ignoring-case-reads
 use Rattle.parts.proofs.if_long.Reads as if-long-reads
 use Rattle.parts.proofs.past_place.Reads as past-place-reads
-use Rattle.tokens.proofs.token.word_of.Reads as word-of-reads
+use Rattle.product_codes.proofs.code.word_of.Reads as word-of-reads
 
 slice-aggregate-first-place-ignoring-case : tie.Need-slice-aggregate-first-place-ignoring-case
 slice-aggregate-first-place-ignoring-case c = search needs

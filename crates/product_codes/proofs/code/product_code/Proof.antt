@@ -1,11 +1,11 @@
 use borrow.Author.Needs.{needs}
 use mathlib.Core.Path.{_∙_, sym, ap}
-use Rattle.tokens.specs.Tokens.{productCode}
+use Rattle.product_codes.specs.Codes.{productCode}
 use Rattle.parts.proofs.Either.{or-empty, or-some}
-use Rattle.tokens.proofs.token.product_code.Statement.{statement}
-use Rattle.tokens.proofs.token.product_code.Tie as tie
-use Rattle.tokens.proofs.token.code_word.Reads as code-word-reads
-use Rattle.tokens.proofs.token.line_word.Reads as line-word-reads
+use Rattle.product_codes.proofs.code.product_code.Statement.{statement}
+use Rattle.product_codes.proofs.code.product_code.Tie as tie
+use Rattle.product_codes.proofs.code.code_word.Reads as code-word-reads
+use Rattle.product_codes.proofs.code.line_word.Reads as line-word-reads
 
 line-word-requires : tie.Need-line-word-requires
 line-word-requires c κs = search needs

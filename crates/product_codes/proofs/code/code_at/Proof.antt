@@ -1,12 +1,12 @@
 use borrow.Author.Needs.{needs}
 use mathlib.Core.Path.{_∙_, sym, ap}
-use Rattle.tokens.specs.Tokens.{codeAt}
-use Rattle.tokens.proofs.token.code_at.Statement.{statement}
-use Rattle.tokens.proofs.token.code_at.Tie as tie
+use Rattle.product_codes.specs.Codes.{codeAt}
+use Rattle.product_codes.proofs.code.code_at.Statement.{statement}
+use Rattle.product_codes.proofs.code.code_at.Tie as tie
 use Rattle.parts.proofs.from.Reads as from-reads
-use Rattle.tokens.proofs.token.begins_word.Reads as begins-word-reads
-use Rattle.tokens.proofs.token.is_code.Reads as is-code-reads
-use Rattle.tokens.proofs.token.word_of.Reads as word-of-reads
+use Rattle.product_codes.proofs.code.begins_word.Reads as begins-word-reads
+use Rattle.product_codes.proofs.code.is_code.Reads as is-code-reads
+use Rattle.product_codes.proofs.code.word_of.Reads as word-of-reads
 
 begins-word-requires : tie.Need-begins-word-requires
 begins-word-requires c κs = search needs

@@ -1,7 +1,7 @@
 use borrow.Author.Needs.{needs}
-use Rattle.tokens.specs.Tokens.{word}
-use Rattle.tokens.proofs.token.word_of.Statement.{statement}
-use Rattle.tokens.proofs.token.word_of.Tie as tie
+use Rattle.product_codes.specs.Codes.{word}
+use Rattle.product_codes.proofs.code.word_of.Statement.{statement}
+use Rattle.product_codes.proofs.code.word_of.Tie as tie
 use Rattle.texts.proofs.alnum_run.Reads as alnum-run-reads
 use Rattle.parts.proofs.first.Reads as first-reads
 

@@ -6,9 +6,9 @@ use mathlib.Core.Bool.{true, not}
 use mathlib.Core.List.{List}
 use lib.ListN.{length, getD, List·getD-eq-default}
 use Rattle.ids.specs.Bytes.{isAlnum, upperOf}
-use Rattle.tokens.specs.Tokens.{beginsWord}
-use Rattle.tokens.proofs.token.begins_word.Statement.{statement}
-use Rattle.tokens.proofs.token.begins_word.Tie as tie
+use Rattle.product_codes.specs.Codes.{beginsWord}
+use Rattle.product_codes.proofs.code.begins_word.Statement.{statement}
+use Rattle.product_codes.proofs.code.begins_word.Tie as tie
 use Rattle.ids.proofs.alnum.Reads as alnum-reads
 
 -- A place at the beginning, or past the end: no letter or digit stands before it.

@@ -1,8 +1,8 @@
 use borrow.Author.Needs.{needs}
 use borrow.Author.Tests.{eq-eqb, le-leb, lt-leb, ne-eqb}
-use Rattle.tokens.specs.Tokens.{isCode}
-use Rattle.tokens.proofs.token.is_code.Statement.{statement}
-use Rattle.tokens.proofs.token.is_code.Tie as tie
+use Rattle.product_codes.specs.Codes.{isCode}
+use Rattle.product_codes.proofs.code.is_code.Statement.{statement}
+use Rattle.product_codes.proofs.code.is_code.Tie as tie
 use Rattle.ids.proofs.upper.Reads as upper-reads
 use Rattle.texts.proofs.digit_run.Reads as digit-run-reads
 use Rattle.parts.proofs.from.Reads as from-reads

@@ -1,10 +1,10 @@
 use borrow.Author.Needs.{needs}
-use Rattle.tokens.specs.Tokens.{codeWord}
-use Rattle.tokens.proofs.token.code_word.Statement.{statement}
-use Rattle.tokens.proofs.token.code_word.Tie as tie
+use Rattle.product_codes.specs.Codes.{codeWord}
+use Rattle.product_codes.proofs.code.code_word.Statement.{statement}
+use Rattle.product_codes.proofs.code.code_word.Tie as tie
 use Rattle.parts.proofs.past_place.Reads as past-place-reads
-use Rattle.tokens.proofs.token.code_place.Reads as code-place-reads
-use Rattle.tokens.proofs.token.word_of.Reads as word-of-reads
+use Rattle.product_codes.proofs.code.code_place.Reads as code-place-reads
+use Rattle.product_codes.proofs.code.word_of.Reads as word-of-reads
 
 code-place-requires : tie.Need-code-place-requires
 code-place-requires c κs = search needs
