@@ -21,7 +21,7 @@ use Rattle.tokens.specs.Tokens.{tokenOf}
 use Rattle.tables.specs.declared.lent.Aliases.{Aliases}
 use Rattle.tables.specs.declared.lent.IdRows.{IdRows}
 use Rattle.trip_ids.specs.Trips.{unless, tripAt, tripOf}
-use Rattle.trip_aliases.specs.Aliases.{keysOf, namedAt, aliasTrip, firstTrip}
+use Rattle.alias_keys.specs.Aliases.{keysOf, namedAt, aliasTrip, firstTrip}
 use Rattle.made_ids.specs.Made.{builtOf}
 use Rattle.named_trips.specs.Named.{idTrip}
 use Rattle.trip_tails.specs.Tails.{tailRow, tailFirst, onlyTrip, tailTrip}

@@ -7,7 +7,7 @@ use Rattle.ids.specs.First.{orElse}
 use Rattle.ids.specs.declared.lookup.Found.{Found}
 use Rattle.ids.specs.declared.lookup.Found.the-variants.{Nothing}
 use Rattle.tokens.specs.Tokens.{tokenOf}
-use Rattle.trip_aliases.specs.Aliases.{Known}
+use Rattle.alias_keys.specs.Aliases.{Known}
 use Rattle.named_trips.specs.Named.{idTrip}
 use Rattle.trip_tails.specs.Tails.{tailTrip}
 use Rattle.line_fits.specs.Lines.{Planned}

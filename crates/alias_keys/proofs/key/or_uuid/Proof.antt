@@ -1,8 +1,8 @@
 use borrow.Author.Needs.{needs}
 use mathlib.Core.Path.{_∙_, sym}
-use Rattle.trip_aliases.proofs.Keys.{uuid-keys, no-uuid-keys}
-use Rattle.trip_aliases.proofs.alias.or_uuid.Statement.{statement}
-use Rattle.trip_aliases.proofs.alias.or_uuid.Tie as tie
+use Rattle.alias_keys.proofs.Keys.{uuid-keys, no-uuid-keys}
+use Rattle.alias_keys.proofs.key.or_uuid.Statement.{statement}
+use Rattle.alias_keys.proofs.key.or_uuid.Tie as tie
 
 is-uuid-requires : tie.Need-is-uuid-requires
 is-uuid-requires c κs = search needs

@@ -12,9 +12,9 @@ use Rattle.refs.specs.Refs.{journeyIdOf, isUuid}
 use Rattle.key_parts.specs.Words.{loc, localMark}
 use Rattle.tables.specs.declared.lent.Aliases.{Aliases}
 use Rattle.tables.specs.declared.lent.IdRows.{IdRows}
-use Rattle.trip_aliases.specs.Aliases.{aliasTrip, firstTrip, uuidKeys, localKeys, keysOf}
+use Rattle.alias_keys.specs.Aliases.{aliasTrip, firstTrip, uuidKeys, localKeys, keysOf}
 use Rattle.trip_ids.specs.Words.{tripMark}
-use Rattle.trip_aliases.specs.Words.{magentaMark, sncfMark, stifMark, localTripMark}
+use Rattle.alias_keys.specs.Words.{magentaMark, sncfMark, stifMark, localTripMark}
 use Rattle.trip_ids.proofs.Firsts.{or-nothing, or-or}
 
 module _ (bytes words : List ℕ) (tripkeys : IdRows) (aliases : Aliases) where

@@ -15,7 +15,7 @@ use Rattle.tables.specs.declared.lent.Aliases.{Aliases}
 use Rattle.tables.specs.declared.lent.IdRows.{IdRows}
 use Rattle.trip_ids.specs.Trips.{tripOf}
 use Rattle.trip_ids.specs.Words.{tripMark}
-use Rattle.trip_aliases.specs.Words.{magentaMark, sncfMark, stifMark, localTripMark}
+use Rattle.alias_keys.specs.Words.{magentaMark, sncfMark, stifMark, localTripMark}
 
 -- the keys of a journey id that is a UUID
 unfoldable pub uuidKeys : List ℕ → List (List ℕ)

@@ -1,8 +1,8 @@
 use borrow.Author.Needs.{needs}
 use mathlib.Core.Path.{_∙_, sym}
-use Rattle.trip_aliases.proofs.Keys.{local-keys, no-local-keys}
-use Rattle.trip_aliases.proofs.alias.or_local.Statement.{statement}
-use Rattle.trip_aliases.proofs.alias.or_local.Tie as tie
+use Rattle.alias_keys.proofs.Keys.{local-keys, no-local-keys}
+use Rattle.alias_keys.proofs.key.or_local.Statement.{statement}
+use Rattle.alias_keys.proofs.key.or_local.Tie as tie
 
 slice-aggregate-begins : tie.Need-slice-aggregate-begins
 slice-aggregate-begins c = search needs

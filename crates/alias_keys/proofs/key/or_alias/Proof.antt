@@ -1,8 +1,8 @@
 use borrow.Author.Needs.{needs}
 use mathlib.Core.Path.{_∙_, sym}
-use Rattle.trip_aliases.specs.Aliases.{aliasTrip}
-use Rattle.trip_aliases.proofs.alias.or_alias.Statement.{statement}
-use Rattle.trip_aliases.proofs.alias.or_alias.Tie as tie
+use Rattle.alias_keys.specs.Aliases.{aliasTrip}
+use Rattle.alias_keys.proofs.key.or_alias.Statement.{statement}
+use Rattle.alias_keys.proofs.key.or_alias.Tie as tie
 
 enum-known-found : tie.Need-enum-known-found
 enum-known-found c = search needs
