@@ -7,9 +7,9 @@ use borrow.Author.Tests.{ltb-false, ltb-true}
 use lib.Dec.{eqb, ltb}
 use Rattle.ids.proofs.ByteOrder.{split}
 use Rattle.columns.proofs.Scan.{Missed}
-use Rattle.trip_fits.specs.Fits.{near}
-use Rattle.trip_fits.specs.declared.fit.Fit.{Fit}
-use Rattle.trip_fits.specs.declared.fit.Fit.the-variants.{Never}
+use Rattle.departure_fits.specs.Departures.{near}
+use Rattle.departure_fits.specs.declared.departure.Fit.{Fit}
+use Rattle.departure_fits.specs.declared.departure.Fit.the-variants.{Never}
 use Rattle.line_crowds.specs.Crowds.{beside}
 
 module _ (fits : ℕ → Fit) where

@@ -3,8 +3,8 @@ use Prim.Native.Nat.{ℕ}
 use mathlib.Core.Bool.{Bool, not, _&&_}
 use lib.Dec.{eqb, ltb}
 use Rattle.columns.specs.Rows.{some}
-use Rattle.trip_fits.specs.Fits.{away, near}
-use Rattle.trip_fits.specs.declared.fit.Fit.{Fit}
+use Rattle.departure_fits.specs.Departures.{away, near}
+use Rattle.departure_fits.specs.declared.departure.Fit.{Fit}
 
 -- row k is another than b, and within two minutes of it
 unfoldable pub beside : (ℕ → Fit) → ℕ → ℕ → Bool

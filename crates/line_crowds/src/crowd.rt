@@ -1,16 +1,16 @@
 // Whether another row of a line is as likely as the one that fits best.
+use departure_fits::Count;
+use departure_fits::Fit;
+use departure_fits::are_near;
+use departure_fits::away_of;
 use line_fits::fit_at;
 use line_fits::on_line;
-use trip_fits::Count;
-use trip_fits::Fit;
 use trip_fits::Plan;
-use trip_fits::are_near;
-use trip_fits::away_of;
 ghost use mathlib.Core.Path.{_≡_};
 ghost use mathlib.Core.Bool.{not, _&&_};
 ghost use lib.Dec.{eqb};
 ghost use Rattle.columns.specs.Rows.{some};
-ghost use Rattle.trip_fits.specs.Fits.{near};
+ghost use Rattle.departure_fits.specs.Departures.{near};
 ghost use Rattle.line_fits.specs.Lines.{rowFit, lineFrom, Planned};
 ghost use Rattle.line_crowds.specs.Crowds.{beside, isCrowded};
 

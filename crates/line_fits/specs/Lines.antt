@@ -9,10 +9,11 @@ use Rattle.ids.specs.declared.lookup.Found.the-variants.{At, Nothing}
 use Rattle.row_lookup.specs.Rows.{standOf, rowIs, placeOf, InOrder}
 use Rattle.row_lookup.specs.declared.rows.Rows.the-variants.{Lines}
 use Rattle.services.specs.Runs.{Calendared}
-use Rattle.trip_fits.specs.Fits.{away, tripFit}
-use Rattle.trip_fits.specs.declared.fit.Count.{Count}
-use Rattle.trip_fits.specs.declared.fit.Fit.{Fit}
-use Rattle.trip_fits.specs.declared.fit.Fit.the-variants.{Never}
+use Rattle.trip_fits.specs.Fits.{tripFit}
+use Rattle.departure_fits.specs.Departures.{away}
+use Rattle.departure_fits.specs.declared.departure.Count.{Count}
+use Rattle.departure_fits.specs.declared.departure.Fit.{Fit}
+use Rattle.departure_fits.specs.declared.departure.Fit.the-variants.{Never}
 use Rattle.trip_fits.specs.declared.fit.Plan.{Plan}
 use Rattle.line_fits.specs.declared.line.Best.{Best}
 

@@ -1,14 +1,14 @@
 // The rows of a line, and the one that fits the moment asked of best. A line's rows stand together among the line entries: the first is
 // found by halves, and then they are read one by one.
+use departure_fits::Count;
+use departure_fits::Fit;
+use departure_fits::away_of;
 use ids::Found;
 use ids::Order;
 use row_lookup::Rows;
 use row_lookup::seek;
 use row_lookup::stands;
-use trip_fits::Count;
-use trip_fits::Fit;
 use trip_fits::Plan;
-use trip_fits::away_of;
 use trip_fits::fit_of;
 ghost use mathlib.Core.Path.{_≡_};
 ghost use Rattle.ids.specs.Pool.{cellOf};

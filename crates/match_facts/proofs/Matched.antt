@@ -21,17 +21,17 @@ use Rattle.tokens.specs.Tokens.{tokenOf}
 use Rattle.tables.specs.declared.lent.Aliases.{Aliases}
 use Rattle.tables.specs.declared.lent.IdRows.{IdRows}
 use Rattle.trip_ids.specs.Trips.{unless, tripAt, tripOf}
-use Rattle.trip_aliases.specs.Aliases.{keysOf, namedAt, aliasTrip, firstTrip}
+use Rattle.alias_keys.specs.Aliases.{keysOf, namedAt, aliasTrip, firstTrip}
 use Rattle.made_ids.specs.Made.{builtOf}
 use Rattle.named_trips.specs.Named.{idTrip}
 use Rattle.trip_tails.specs.Tails.{tailRow, tailFirst, onlyTrip, tailTrip}
-use Rattle.trip_fits.specs.Fits.{away}
+use Rattle.departure_fits.specs.Departures.{away}
 use Rattle.line_fits.specs.Lines.{rowFit, leastOf, bestOf}
 use Rattle.line_crowds.specs.Crowds.{isCrowded}
 use Rattle.trip_times.specs.Line.{alone, lineTrip}
 use Rattle.trip_times.specs.Line.{tripAt as lineAt}
-use Rattle.trip_fits.specs.declared.fit.Count.{Count}
-use Rattle.trip_fits.specs.declared.fit.Fit.{Fit}
+use Rattle.departure_fits.specs.declared.departure.Count.{Count}
+use Rattle.departure_fits.specs.declared.departure.Fit.{Fit}
 use Rattle.trip_fits.specs.declared.fit.Plan.{Plan}
 use Rattle.matching.specs.Matching.{tokenTrip, timedTrip, matchOf}
 use Rattle.matching.specs.declared.whole.Named.{Named}

@@ -7,7 +7,7 @@ use lib.ListN.{length}
 use Rattle.ids.specs.Bytes.{upperOf}
 use Rattle.ids.specs.declared.lookup.Found.the-variants.{Nothing}
 use Rattle.trip_times.specs.Line.{lineTrip}
-use Rattle.trip_fits.specs.declared.fit.Count.{Count}
+use Rattle.departure_fits.specs.declared.departure.Count.{Count}
 use Rattle.trip_fits.specs.declared.fit.Plan.{Plan}
 use Rattle.matching.specs.Matching.{tokenTrip}
 

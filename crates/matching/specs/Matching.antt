@@ -7,12 +7,12 @@ use Rattle.ids.specs.First.{orElse}
 use Rattle.ids.specs.declared.lookup.Found.{Found}
 use Rattle.ids.specs.declared.lookup.Found.the-variants.{Nothing}
 use Rattle.tokens.specs.Tokens.{tokenOf}
-use Rattle.trip_aliases.specs.Aliases.{Known}
+use Rattle.alias_keys.specs.Aliases.{Known}
 use Rattle.named_trips.specs.Named.{idTrip}
 use Rattle.trip_tails.specs.Tails.{tailTrip}
 use Rattle.line_fits.specs.Lines.{Planned}
 use Rattle.trip_times.specs.Line.{lineTrip, ShortTokens}
-use Rattle.trip_fits.specs.declared.fit.Count.{Count}
+use Rattle.departure_fits.specs.declared.departure.Count.{Count}
 use Rattle.trip_fits.specs.declared.fit.Plan.{Plan}
 use Rattle.matching.specs.declared.whole.Named.{Named}
 

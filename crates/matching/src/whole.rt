@@ -1,9 +1,9 @@
 // Every way of finding a trip, in its turn.
+use departure_fits::Count;
 use ids::Found;
 use named_trips::by_id;
 use tables::Aliases;
 use tables::IdRows;
-use trip_fits::Count;
 use trip_fits::Plan;
 use trip_tails::by_tail;
 use trip_times::by_token;

@@ -2,7 +2,7 @@
 use Prim.Native.Nat.{ℕ, _+_, _-_, _<_}
 use lib.IntN.{ℤ, pos, negsuc, _+ℤ_, natAbs}
 use Rattle.days.specs.Service.{serviceDayOf}
-use Rattle.trip_fits.specs.declared.fit.Count.{Count}
+use Rattle.departure_fits.specs.declared.departure.Count.{Count}
 
 -- from a day before 19700101 on, for some thirty thousand years
 abbrev pub InReach : ℤ → Type 0

@@ -1,6 +1,6 @@
 // A moment of local time as the two counts that departures are compared with.
 use days::ServiceDay;
-use trip_fits::Count;
+use departure_fits::Count;
 ghost use mathlib.Core.Path.{_≡_};
 ghost use Rattle.moments.specs.Moments.{todayOf, yesterdayOf, InReach};
 

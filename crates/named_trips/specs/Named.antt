@@ -6,7 +6,7 @@ use Rattle.ids.specs.declared.lookup.Found.{Found}
 use Rattle.tables.specs.declared.lent.Aliases.{Aliases}
 use Rattle.tables.specs.declared.lent.IdRows.{IdRows}
 use Rattle.trip_ids.specs.Trips.{tripOf}
-use Rattle.trip_aliases.specs.Aliases.{keysOf, firstTrip}
+use Rattle.alias_keys.specs.Aliases.{keysOf, firstTrip}
 use Rattle.made_ids.specs.Made.{builtOf}
 
 module _ (bytes words : List ℕ) (tripkeys : IdRows) (aliases : Aliases) where

@@ -6,7 +6,7 @@ use tables::IdRows;
 use trip_aliases::by_alias;
 use trip_ids::by_key;
 ghost use mathlib.Core.Path.{_≡_};
-ghost use Rattle.trip_aliases.specs.Aliases.{Known};
+ghost use Rattle.alias_keys.specs.Aliases.{Known};
 ghost use Rattle.named_trips.specs.Named.{idTrip};
 
 // The trip that a base key names: as its id, by its aliases, or by the id made of its parts.

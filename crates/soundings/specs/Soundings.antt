@@ -16,10 +16,10 @@ use Rattle.maths.specs.Series.{whole}
 use Rattle.calibration.specs.Scale.{decimal, snapUnitScale}
 use Rattle.refs.specs.Refs.{journeyIdOf}
 use Rattle.stop_digits.specs.Stops.{stopDigitsOf}
-use Rattle.trip_fits.specs.Fits.{away, ifRuns, nearer}
+use Rattle.departure_fits.specs.Departures.{away, ifRuns, nearer}
 use Rattle.line_fits.specs.Lines.{bestOf}
 use Rattle.trip_times.specs.Line.{alone}
-use Rattle.trip_fits.specs.declared.fit.Fit.{Fit}
+use Rattle.departure_fits.specs.declared.departure.Fit.{Fit}
 
 -- what a date comes to: its day and weekday, or a refusal's number
 pub data Answer : Type 0 where

@@ -3,5 +3,4 @@
 mod token; // token.rt: the tokens
 
 pub use token::journey_token;
-pub use token::product_code;
 pub use token::token_of;

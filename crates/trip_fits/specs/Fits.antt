@@ -1,41 +1,16 @@
--- How well a trip's first departure fits the moment asked of, in signed seconds.
+-- How well a trip's first departure fits the moment asked of.
 use Prim.Native.Nat.{ℕ}
-use mathlib.Core.Bool.{Bool, false, _&&_, cond}
+use mathlib.Core.Bool.{Bool, _&&_, cond}
 use mathlib.Core.List.{List}
 use lib.Dec.{eqb, ltb, leb}
-use lib.IntN.{ℤ, pos, _-ℤ_, natAbs}
 use Rattle.ids.specs.Pool.{cellOf, idOf}
 use Rattle.columns.specs.Rows.{bitOf}
 use Rattle.services.specs.Runs.{runsOf}
-use Rattle.trip_fits.specs.declared.fit.Count.{Count}
-use Rattle.trip_fits.specs.declared.fit.Fit.{Fit}
-use Rattle.trip_fits.specs.declared.fit.Fit.the-variants.{Never, By}
+use Rattle.departure_fits.specs.Departures.{nearer, ifRuns}
+use Rattle.departure_fits.specs.declared.departure.Count.{Count}
+use Rattle.departure_fits.specs.declared.departure.Fit.{Fit}
+use Rattle.departure_fits.specs.declared.departure.Fit.the-variants.{Never}
 use Rattle.trip_fits.specs.declared.fit.Plan.{Plan}
-
--- the seconds from its count to a departure: negative where it departs before
-abbrev pub since : ℕ → ℕ → ℤ
-since s count = pos s -ℤ pos count
-
--- how far from its count a departure is; 901 seconds, which is too far, where there is none
-abbrev pub away : Fit → ℕ
-away Never = 901
-away (By s count) = natAbs (since s count)
-
--- two departures, each taken from its count, are within two minutes of each other
-abbrev pub near : Fit → Fit → Bool
-near Never g = false
-near (By s c) Never = false
-near (By s c) (By t d) = leb (natAbs (since s c -ℤ since t d)) 120
-
--- the first, unless the second is strictly nearer or the only one
-abbrev pub nearer : Fit → Fit → Fit
-nearer Never g = g
-nearer (By s c) Never = By s c
-nearer (By s c) (By t d) = cond (ltb (natAbs (since t d)) (natAbs (since s c))) (By t d) (By s c)
-
--- a departure that is compared with the count, on a day on which the trip runs
-abbrev pub ifRuns : Bool → ℕ → ℕ → Fit
-ifRuns r s count = cond r (By s count) Never
 
 module _ (bytes words : List ℕ) (p : Plan) where
   -- the trip runs on the day

@@ -9,7 +9,7 @@ use Rattle.ids.specs.Pool.{idOf}
 use Rattle.ids.specs.declared.lookup.Found.the-variants.{Nothing}
 use Rattle.row_lookup.specs.Rows.{standOf, partsAt, keyOf, rowIs}
 use Rattle.row_lookup.proofs.Halves.{is-other, parts-same}
-use Rattle.trip_fits.specs.declared.fit.Count.{Count}
+use Rattle.departure_fits.specs.declared.departure.Count.{Count}
 use Rattle.trip_fits.specs.declared.fit.Plan.{Plan}
 use Rattle.line_fits.specs.Lines.{onLine, rowFit}
 use Rattle.line_fits.proofs.Best.{none-yet, off-line}

@@ -6,8 +6,8 @@ use lib.ListN.{length}
 use Rattle.ids.specs.Pool.{cellOf, idOf}
 use Rattle.ids.specs.declared.lookup.Found.{Found}
 use Rattle.ids.specs.declared.lookup.Found.the-variants.{At, Nothing}
-use Rattle.trip_fits.specs.declared.fit.Count.{Count}
-use Rattle.trip_fits.specs.declared.fit.Fit.{Fit}
+use Rattle.departure_fits.specs.declared.departure.Count.{Count}
+use Rattle.departure_fits.specs.declared.departure.Fit.{Fit}
 use Rattle.trip_fits.specs.declared.fit.Plan.{Plan}
 use Rattle.line_fits.specs.Lines.{rowFit, bestOf}
 use Rattle.line_crowds.specs.Crowds.{isCrowded}

@@ -1,10 +1,10 @@
 // The trip of a line that fits the moment asked of best.
+use departure_fits::Count;
 use ids::Found;
 use line_crowds::crowded;
 use line_fits::best_of;
 use line_fits::first_on_line;
 use line_fits::fit_at;
-use trip_fits::Count;
 use trip_fits::Plan;
 ghost use mathlib.Core.Path.{_≡_};
 ghost use Rattle.line_fits.specs.Lines.{Planned};

@@ -1,7 +1,7 @@
 // A line's token is looked up in upper case.
 use crate::line::by_line;
+use departure_fits::Count;
 use ids::Found;
-use trip_fits::Count;
 use trip_fits::Plan;
 ghost use mathlib.Core.Path.{_≡_};
 ghost use mathlib.Core.List.{map};

@@ -3,7 +3,7 @@ use borrow.Author.Tests.{le-ltb, lt-ltb}
 use Rattle.line_crowds.specs.Crowds.{isCrowded}
 use Rattle.line_crowds.proofs.crowd.crowded.Statement.{statement}
 use Rattle.line_crowds.proofs.crowd.crowded.Tie as tie
-use Rattle.trip_fits.proofs.away_of.Reads as away-of-reads
+use Rattle.departure_fits.proofs.away_of.Reads as away-of-reads
 use Rattle.line_crowds.proofs.crowd.has_beside.Reads as has-beside-reads
 
 away-of-requires : tie.Need-away-of-requires

@@ -2,7 +2,7 @@ use borrow.Author.Needs.{needs}
 use borrow.Author.Tests.{eq-eqb, ne-eqb}
 use Rattle.line_crowds.proofs.crowd.is_beside.Statement.{statement}
 use Rattle.line_crowds.proofs.crowd.is_beside.Tie as tie
-use Rattle.trip_fits.proofs.are_near.Reads as are-near-reads
+use Rattle.departure_fits.proofs.are_near.Reads as are-near-reads
 
 returns : tie.Need-returns
 returns c = rw (eq-eqb _ _ (c .if1 .taken))

@@ -9,7 +9,7 @@ use Rattle.row_lookup.proofs.Halves.{place-le}
 use Rattle.row_lookup.specs.Rows.{keyOf, partsAt, standOf}
 use Rattle.row_lookup.specs.declared.rows.Rows.the-variants.{Lines}
 use mathlib.Core.List.{[]}
-use Rattle.trip_fits.specs.declared.fit.Fit.{Fit}
+use Rattle.departure_fits.specs.declared.departure.Fit.{Fit}
 use Rattle.line_fits.specs.Lines.{bestOf, rowFit}
 use Rattle.line_fits.proofs.Best.{after-line, before-line, next, none-more, none-yet, on-line-fit, stateOf}
 use Rattle.line_fits.proofs.line.best_of.Statement.{statement}

@@ -5,7 +5,7 @@ use Rattle.parts.proofs.Either.{or-empty, or-some}
 use Rattle.tokens.proofs.token.token_of.Statement.{statement}
 use Rattle.tokens.proofs.token.token_of.Tie as tie
 use Rattle.tokens.proofs.token.journey_token.Reads as journey-token-reads
-use Rattle.tokens.proofs.token.product_code.Reads as product-code-reads
+use Rattle.product_codes.proofs.product_code.Reads as product-code-reads
 
 product-code-requires : tie.Need-product-code-requires
 product-code-requires c κs = search needs

@@ -1,6 +1,6 @@
 -- `trip_aliases::alias::by_alias` meets its contract: each call is handed what the one before has found, and the keys come in their order.
 use borrow.Author.Needs.{needs}
-use Rattle.trip_aliases.proofs.Keys.{base-keys}
+use Rattle.alias_keys.proofs.Keys.{base-keys}
 use Rattle.trip_aliases.proofs.alias.by_alias.Statement.{statement}
 use Rattle.trip_aliases.proofs.alias.by_alias.Tie as tie
 

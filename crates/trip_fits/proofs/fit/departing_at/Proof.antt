@@ -2,9 +2,9 @@ use borrow.Author.Needs.{needs}
 use Rattle.trip_fits.specs.Fits.{departing}
 use Rattle.trip_fits.proofs.fit.departing_at.Statement.{statement}
 use Rattle.trip_fits.proofs.fit.departing_at.Tie as tie
-use Rattle.trip_fits.proofs.fit.fit_if.Reads as fit-if-reads
+use Rattle.departure_fits.proofs.fit_if.Reads as fit-if-reads
 use Rattle.trip_fits.proofs.fit.late_runs.Reads as late-runs-reads
-use Rattle.trip_fits.proofs.fit.nearer_of.Reads as nearer-of-reads
+use Rattle.departure_fits.proofs.nearer_of.Reads as nearer-of-reads
 use Rattle.trip_fits.proofs.fit.trip_runs.Reads as trip-runs-reads
 
 trip-runs-requires : tie.Need-trip-runs-requires

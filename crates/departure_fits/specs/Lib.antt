@@ -1,0 +1,2 @@
+-- `Departures`: how far a departure is from its count.
+pub mod Departures

@@ -1,0 +1,2 @@
+-- `Codes`: the product code of a line.
+pub mod Codes
