@@ -6,7 +6,7 @@ use trip_backfill::backfill_trips;
 ghost use mathlib.Core.Path.{_≡_};
 ghost use Rattle.measure.specs.Answer.{numberOf};
 ghost use Rattle.tables.specs.Pools.{pools};
-ghost use Rattle.trip_backfill.specs.Tables.{oneOf};
+ghost use Rattle.one_trip.specs.One.{oneOf};
 ghost use Rattle.trip_backfill.specs.Answers.{backfillAnswer, filledOf, filledDists, filledMarks};
 
 fn number(b: Backfilled) -> u32

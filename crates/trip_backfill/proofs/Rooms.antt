@@ -14,11 +14,11 @@ use Rattle.refusals.specs.Refuse.{refusalOf}
 use Rattle.tables.specs.declared.lent.Tables.{Tables}
 use Rattle.geometry_checks.specs.Operations.{geometryCauses}
 use Rattle.backfill.specs.Rows.{rowsOf, distsIn, marksIn}
-use Rattle.trip_backfill.specs.Tables.{afterTrips}
+use Rattle.filled_trips.specs.Tables.{afterTrips}
 use Rattle.trip_backfill.specs.Answers.{lentRows, shortOf, roomAnswer, roomDists, roomMarks, fillRefusal, filledOf, filledDists, filledMarks}
 use Rattle.backfill.specs.declared.row.Distance.{Distance}
 use Rattle.backfill.proofs.Columns.{dists-count, marks-count}
-use Rattle.trip_backfill.proofs.Among.{trips-count}
+use Rattle.filled_trips.proofs.Among.{trips-count}
 
 -- where only room is wanting: so many rows, and as many afterwards
 module _ (rows after : List Distance) (same : length after ≡ length rows) (dist : List Float) (measured : List ℕ) where

@@ -1,3 +1,2 @@
--- What the contracts cite. `Tables`: backfill of the trips of the tables. `Answers`: the published operations.
-pub mod Tables
+-- What the contracts cite. `Answers`: the published operations.
 pub mod Answers

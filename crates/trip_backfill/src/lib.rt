@@ -1,5 +1,5 @@
-// Published: backfill of the trips of the lent tables, into two lent columns. It ports `backfill_shape_dist_traveled` of the Rust's routing/geometry.rs, through
-// the core of `backfill`. Theorems are in proofs/Keeps.antt: a distance that is there is never written, and only rows of the trip are.
+// Published: backfill of the trips of the lent tables, into two lent columns. It ports `backfill_shape_dist_traveled` of the Rust's routing/geometry.rs, trip by
+// trip as `filled_trips` fills them.
 mod copy; // columns copied into the outputs
 mod trips; // the trips, in table order
 

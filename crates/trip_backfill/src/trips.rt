@@ -2,20 +2,20 @@
 use crate::copy::copy_dists;
 use crate::copy::copy_marks;
 use crate::copy::count;
-use backfill::backfill_rows;
+use filled_trips::backfill_in;
 use geometry_checks::check_geometry;
+use one_trip::end_of;
 use tables::Bounds;
 use tables::Tables;
 use tables::bytes_of;
 use tables::dists_of;
-use trip_rows::shape_column;
-use trip_rows::trip_span;
 ghost use mathlib.Core.Path.{_≡_};
 ghost use Prim.Native.Nat.{_-_, _≤_};
 ghost use lib.ListN.{length};
 ghost use Rattle.tables.specs.Pools.{pools};
 ghost use Rattle.backfill.specs.Rows.{rowsOf, distsIn, marksIn};
-ghost use Rattle.trip_backfill.specs.Tables.{afterTrip, afterTrips, oneOf};
+ghost use Rattle.filled_trips.specs.Tables.{afterTrips};
+ghost use Rattle.one_trip.specs.One.{oneOf};
 ghost use Rattle.trip_backfill.specs.Answers.{backfillAnswer, filledOf, filledDists, filledMarks, roomAnswer, roomDists, roomMarks};
 
 // What backfill answers.
@@ -24,51 +24,6 @@ pub enum Backfilled {
     Rows(usize),
     // the number of the refusal
     Refused(u32),
-}
-
-// One trip, among the rows of all stop times. Where its rows are not all there nothing is written.
-fn backfill_in(
-    bytes: &[u8],
-    words: &[u32],
-    reals: &[f64],
-    t: Tables,
-    trip: usize,
-    dist: &mut [f32],
-    measured: &mut [u8],
-)
-    requires { ⌜ length (now dist) ≡ length (now measured) ⌝ }
-    ensures { λ r. ⌜ now (dist .exit) ≡ distsIn (afterTrip (now (bytes .entry)) (now (words .entry)) (now (reals .entry)) t trip (rowsOf (now (dist .entry)) (now (measured .entry)))) ⌝ }
-    ensures { λ r. ⌜ now (measured .exit) ≡ marksIn (afterTrip (now (bytes .entry)) (now (words .entry)) (now (reals .entry)) t trip (rowsOf (now (dist .entry)) (now (measured .entry)))) ⌝ }
-{
-    let stops = t.stops;
-    let trips = t.trips;
-    let calls = t.times;
-    let shapes = t.shapes;
-    let firsts = trips.first;
-    let counts = trips.count;
-    let lats = t.points.lat;
-    let lons = t.points.lon;
-    let first = ids::cell(words, firsts, trip);
-    let n = ids::cell(words, counts, trip);
-    let from = first as usize;
-    let to = from + n as usize;
-    if dist.len() < to {
-        return;
-    }
-    let points = trip_span(bytes, words, trips, shapes, trip);
-    backfill_rows(
-        bytes,
-        words,
-        reals,
-        stops,
-        calls,
-        shape_column(reals, lats, points),
-        shape_column(reals, lons, points),
-        first,
-        n,
-        &mut dist[from..to],
-        &mut measured[from..to],
-    );
 }
 
 // The trips from a to before e.
@@ -212,16 +167,6 @@ pub fn backfill_trips(
     let firsts = trips.first;
     let n = firsts.n as usize;
     backfill_between(bytes, words, times, reals, dists, t, 0, n, dist, measured)
-}
-
-// Where the one trip ends that is asked of; a number that is no trip's has none.
-fn end_of(trip: usize, trips: usize) -> usize
-    ensures { λ r. ⌜ r - trip ≡ oneOf trip trips ⌝ }
-{
-    if trip < trips {
-        return trip + 1;
-    }
-    trip
 }
 
 // The same, after backfill of one trip alone.

@@ -1,7 +1,7 @@
 -- `trip_backfill::trips::backfill_each` meets its contract. The loop's invariant: the trips from k on, after those so far, are all.
 use Prim.Native.Nat.{_-_}
 use native.Mathlib.Omega.{arith}
-use Rattle.trip_backfill.proofs.Among.{Each, each-starts, each-on, each-ends}
+use Rattle.filled_trips.proofs.Among.{Each, each-starts, each-on, each-ends}
 use Rattle.trip_backfill.proofs.trips.backfill_each.Statement.{statement}
 use Rattle.trip_backfill.proofs.trips.backfill_each.Tie as tie
 

@@ -1,7 +1,7 @@
 use borrow.Author.Needs.{needs}
 use Prim.Native.Nat.{_-_}
 use mathlib.Core.Path.{_∙_}
-use Rattle.trip_backfill.proofs.Among.{fits-dists, fits-marks, laid, laid-same}
+use Rattle.filled_trips.proofs.Among.{fits-dists, fits-marks, laid, laid-same}
 use Rattle.trip_backfill.proofs.trips.lay.Statement.{statement}
 use Rattle.trip_backfill.proofs.trips.lay.Tie as tie
 

@@ -2,7 +2,7 @@ use borrow.Author.Needs.{needs}
 use native.Mathlib.Omega.{arith}
 use mathlib.Core.Path.{sym, _∙_}
 use lib.Seq.{length-take-le}
-use Rattle.trip_backfill.proofs.Among.{trips-count}
+use Rattle.filled_trips.proofs.Among.{trips-count}
 use Rattle.trip_backfill.proofs.Rooms.{short, enough}
 use Rattle.trip_backfill.proofs.trips.write.Statement.{statement}
 use Rattle.trip_backfill.proofs.trips.write.Tie as tie

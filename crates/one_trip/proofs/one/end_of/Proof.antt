@@ -1,9 +1,9 @@
 use borrow.Author.Needs.{needs}
 use native.Mathlib.Omega.{arith}
 use borrow.Author.Tests.{lt-ltb, le-ltb}
-use Rattle.trip_backfill.specs.Tables.{oneOf}
-use Rattle.trip_backfill.proofs.trips.end_of.Statement.{statement}
-use Rattle.trip_backfill.proofs.trips.end_of.Tie as tie
+use Rattle.one_trip.specs.One.{oneOf}
+use Rattle.one_trip.proofs.one.end_of.Statement.{statement}
+use Rattle.one_trip.proofs.one.end_of.Tie as tie
 
 add-result : tie.Need-add-result
 add-result c = search needs

@@ -2,9 +2,9 @@ use borrow.Author.Needs.{needs}
 use native.Mathlib.Omega.{arith}
 use mathlib.Core.Path.{refl, sym}
 use Rattle.trip_rows.specs.Rows.{tripLine}
-use Rattle.trip_backfill.proofs.Among.{part-long, trip-short, trip-filled}
-use Rattle.trip_backfill.proofs.trips.backfill_in.Statement.{statement}
-use Rattle.trip_backfill.proofs.trips.backfill_in.Tie as tie
+use Rattle.filled_trips.proofs.Among.{part-long, trip-short, trip-filled}
+use Rattle.filled_trips.proofs.trip.backfill_in.Statement.{statement}
+use Rattle.filled_trips.proofs.trip.backfill_in.Tie as tie
 
 cell-requires : tie.Need-cell-requires
 cell-requires c κs = tt

@@ -19,7 +19,7 @@ use Rattle.backfill.specs.Trip.{backfillOf}
 use Rattle.backfill.specs.declared.row.Distance.{Distance}
 use Rattle.backfill.proofs.Keeps.{none, Present, trip-keeps}
 use Rattle.backfill.proofs.Filling.{backfill-count}
-use Rattle.trip_backfill.specs.Tables.{afterTrip, afterTrips}
+use Rattle.filled_trips.specs.Tables.{afterTrip, afterTrips}
 
 -- ---- among all rows: a part of them in its place
 module _ {A : Type 0} (z : A) (rows part : List A) (first n : ℕ) (room : first + n ≤ length rows) (long : length part ≡ n) where

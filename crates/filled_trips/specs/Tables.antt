@@ -25,7 +25,3 @@ afterTrip bytes words reals t trip rows =
 unfoldable pub afterTrips : List ℕ → List ℕ → List Float → Tables → ℕ → ℕ → List Distance → List Distance
 afterTrips bytes words reals t trip zero rows = rows
 afterTrips bytes words reals t trip (suc n) rows = afterTrips bytes words reals t (suc trip) n (afterTrip bytes words reals t trip rows)
-
--- how many trips a number names, of so many in the table
-unfoldable pub oneOf : ℕ → ℕ → ℕ
-oneOf trip trips = cond (ltb trip trips) 1 0
