@@ -14,7 +14,7 @@ use Rattle.chain_vertices.proofs.Standing.{two-or-more, rows-and-two, starts-at
 use Rattle.legs.specs.Granted.{Chained}
 use Rattle.paths.specs.declared.path.End.{End}
 use Rattle.legs.proofs.Chosen.{Chosen, straight, path-chosen}
-use Rattle.leg_paths.specs.Dist.{seqDist}
+use Rattle.seq_distances.specs.Dist.{seqDist}
 use Rattle.leg_paths.specs.Leg.{legCount, legShape, legRows, legStops, tripPath, legPath}
 use Rattle.leg_paths.proofs.Choice.{in-reach, start-is, end-is}
 

@@ -19,7 +19,7 @@ use Rattle.paths.specs.Path.{feedSpan, pathOf}
 use Rattle.paths.specs.declared.path.End.{End}
 use Rattle.paths.specs.declared.path.Path.{Path}
 use Rattle.paths.specs.declared.path.Path.the-variants.{Straight}
-use Rattle.leg_paths.specs.Dist.{seqDist}
+use Rattle.seq_distances.specs.Dist.{seqDist}
 
 -- how many rows a leg's trip has
 abbrev pub legCount : List ℕ → Course → Found → ℕ

@@ -1,3 +1,2 @@
--- What the contracts cite. `Dist`: the distance that the timetable has for a sequence. `Leg`: the shape and the chain of a leg of a trip, and its path.
-pub mod Dist
+-- What the contracts cite. `Leg`: the shape and the chain of a leg of a trip, and its path.
 pub mod Leg

@@ -1,6 +1,5 @@
 // Which path a leg is drawn along: on a shape of two points or more by distance, else between the nearest vertices,
 // else along the stops between.
-use crate::dist::seq_dist;
 use crate::leg::leg_rows;
 use crate::leg::leg_span;
 use by_distance::Spanned;
@@ -12,6 +11,7 @@ use paths::Path;
 use paths::feed_span;
 use polylines::Routed;
 use polylines::route_between;
+use seq_distances::seq_dist;
 use trip_rows::shape_column;
 use trip_samples::Course;
 use trip_samples::trip_shape_dist_affine;

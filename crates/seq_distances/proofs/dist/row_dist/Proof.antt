@@ -1,8 +1,8 @@
--- `leg_paths::dist::row_dist` meets its contract.
+-- `seq_distances::dist::row_dist` meets its contract.
 use borrow.Author.Needs.{needs}
 use mathlib.Core.Path.{sym, _∙_}
-use Rattle.leg_paths.proofs.dist.row_dist.Statement.{statement}
-use Rattle.leg_paths.proofs.dist.row_dist.Tie as tie
+use Rattle.seq_distances.proofs.dist.row_dist.Statement.{statement}
+use Rattle.seq_distances.proofs.dist.row_dist.Tie as tie
 
 enum-known-row : tie.Need-enum-known-row
 enum-known-row c = search needs

@@ -9,7 +9,7 @@ ghost use mathlib.Core.Path.{_≡_};
 ghost use Rattle.ids.specs.First.{first};
 ghost use Rattle.trip_rows.specs.Rows.{realOf};
 ghost use Rattle.trip_samples.specs.Course.{rowAfter};
-ghost use Rattle.leg_paths.specs.Dist.{hasSequence, rowDist, seqDist};
+ghost use Rattle.seq_distances.specs.Dist.{hasSequence, rowDist, seqDist};
 
 // Row k of a column of distances, or NaN past the pool's end.
 fn dist_at(dists: &[f32], span: Span, k: usize) -> f32

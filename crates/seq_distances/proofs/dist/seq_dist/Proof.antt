@@ -1,7 +1,7 @@
--- `leg_paths::dist::seq_dist` meets its contract.
-use Rattle.leg_paths.specs.Dist.{seqDist}
-use Rattle.leg_paths.proofs.dist.seq_dist.Statement.{statement}
-use Rattle.leg_paths.proofs.dist.seq_dist.Tie as tie
+-- `seq_distances::dist::seq_dist` meets its contract.
+use Rattle.seq_distances.specs.Dist.{seqDist}
+use Rattle.seq_distances.proofs.dist.seq_dist.Statement.{statement}
+use Rattle.seq_distances.proofs.dist.seq_dist.Tie as tie
 
 cell-requires : tie.Need-cell-requires
 cell-requires c κs = tt

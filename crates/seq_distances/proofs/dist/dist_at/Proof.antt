@@ -1,11 +1,11 @@
--- `leg_paths::dist::dist_at` meets its contract.
+-- `seq_distances::dist::dist_at` meets its contract.
 use borrow.Author.Needs.{needs}
 use native.Mathlib.Omega.{arith}
 use mathlib.Core.Path.{sym}
 use lib.Ieee.{nan, div, ofBits}
 use lib.ListN.{List·getD-eq-default}
-use Rattle.leg_paths.proofs.dist.dist_at.Statement.{statement}
-use Rattle.leg_paths.proofs.dist.dist_at.Tie as tie
+use Rattle.seq_distances.proofs.dist.dist_at.Statement.{statement}
+use Rattle.seq_distances.proofs.dist.dist_at.Tie as tie
 
 returns : tie.Need-returns
 unfolding div ofBits

@@ -1,4 +1,4 @@
--- `leg_paths::dist::seq_row` meets its contract. The loop's invariant: no row so far has the sequence.
+-- `seq_distances::dist::seq_row` meets its contract. The loop's invariant: no row so far has the sequence.
 use borrow.Author.Count.{below-more, below-none}
 use borrow.Author.Tests.{eq-eqb, ne-eqb}
 use Prim.Native.Nat.{_-_, _<_, _≤_, ℕ}
@@ -7,9 +7,9 @@ use mathlib.Core.Bool.{false}
 use mathlib.Core.Path.{_≡_, ap, sym, _∙_}
 use Rattle.ids.proofs.Search.{first-hit, first-miss}
 use Rattle.trip_samples.specs.Course.{rowAfter}
-use Rattle.leg_paths.specs.Dist.{hasSequence}
-use Rattle.leg_paths.proofs.dist.seq_row.Statement.{statement}
-use Rattle.leg_paths.proofs.dist.seq_row.Tie as tie
+use Rattle.seq_distances.specs.Dist.{hasSequence}
+use Rattle.seq_distances.proofs.dist.seq_row.Statement.{statement}
+use Rattle.seq_distances.proofs.dist.seq_row.Tie as tie
 
 abbrev Inv-loop : tie.InvT-loop
 Inv-loop words column from n sequence rows k₀ k = (k ≤ n) × ((j : ℕ) → j < k → hasSequence words column from sequence j ≡ false)

@@ -1,0 +1,2 @@
+-- What the contracts cite. `Dist`: the distance that the timetable has for a sequence.
+pub mod Dist
