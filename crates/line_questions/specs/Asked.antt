@@ -4,24 +4,17 @@ use mathlib.Core.List.{List}
 use lib.Dec.{ltb}
 use lib.Ieee.{Float, nan}
 use lib.ListN.{length, getD}
-use Rattle.lengths.specs.Line.{nowhere}
+use Rattle.lengths.specs.Line.{lineOf, nowhere}
 use Rattle.lengths.specs.declared.line.Point.{Point}
 use Rattle.stretches.specs.declared.drawing.Interpolated.{Interpolated}
 use Rattle.stretches.specs.declared.drawing.Interpolated.the-variants.{Nothing}
-use Rattle.by_distance.specs.Interpolate.{byDist, byFeedDist}
 use Rattle.routes.specs.Route.{alongVertices}
 use Rattle.polylines.specs.Polyline.{polylineOf}
-use Rattle.interpolate.specs.declared.asked.Question.{Question}
-use Rattle.interpolate.specs.declared.asked.Question.the-variants.{ByDistance, ByFeedDistance, AlongVertices, Polyline}
-
--- between two distances in metres, at a fraction
-unfoldable pub byDistLent : List Point → List Float → List Float → Interpolated
-byDistLent line ds xs = cond (ltb (length ds) 2 || ltb (length xs) 1) Nothing (byDist line (getD ds 0 nan) (getD ds 1 nan) (getD xs 0 nan))
-
--- between two of a feed, at a fraction, with the calibration a + b·d
-unfoldable pub byFeedLent : List Point → List Float → List Float → Interpolated
-byFeedLent line ds xs =
-    cond (ltb (length ds) 2 || ltb (length xs) 3) Nothing (byFeedDist line (getD ds 0 nan) (getD ds 1 nan) (getD xs 0 nan) (getD xs 1 nan) (getD xs 2 nan))
+use Rattle.tables.specs.Pools.{partOf}
+use Rattle.tables.specs.declared.lent.Along.{Along}
+use Rattle.lent_distances.specs.Distances.{byDistLent, byFeedLent}
+use Rattle.line_questions.specs.declared.asked.Question.{Question}
+use Rattle.line_questions.specs.declared.asked.Question.the-variants.{ByDistance, ByFeedDistance, AlongVertices, Polyline}
 
 -- at a fraction of the whole line
 unfoldable pub verticesLent : List Point → List Float → Interpolated
@@ -36,3 +29,9 @@ positionLent ByDistance line ends ds xs = byDistLent line ds xs
 positionLent ByFeedDistance line ends ds xs = byFeedLent line ds xs
 positionLent AlongVertices line ends ds xs = verticesLent line xs
 positionLent Polyline line ends ds xs = polylineLent line ends xs
+
+-- the position asked for, of what is lent
+unfoldable pub alongLent : List Float → List Float → Question → Along → Interpolated
+alongLent reals dists question a =
+    positionLent question (lineOf (partOf reals (a .line .lat)) (partOf reals (a .line .lon))) (lineOf (partOf reals (a .ends .lat)) (partOf reals (a .ends .lon)))
+    (partOf dists (a .dists)) (partOf reals (a .numbers))

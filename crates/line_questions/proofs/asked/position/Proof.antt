@@ -1,6 +1,6 @@
 use borrow.Author.Needs.{needs}
-use Rattle.interpolate.proofs.asked.position.Statement.{statement}
-use Rattle.interpolate.proofs.asked.position.Tie as tie
+use Rattle.line_questions.proofs.asked.position.Statement.{statement}
+use Rattle.line_questions.proofs.asked.position.Tie as tie
 
 enum-told : tie.Need-enum-told
 enum-told c = search needs

@@ -1,8 +1,8 @@
 use borrow.Author.Needs.{needs}
 use borrow.Author.Tests.{le-ltb, lt-ltb}
-use Rattle.interpolate.specs.Asked.{polylineLent}
-use Rattle.interpolate.proofs.asked.of_part.Statement.{statement}
-use Rattle.interpolate.proofs.asked.of_part.Tie as tie
+use Rattle.line_questions.specs.Asked.{polylineLent}
+use Rattle.line_questions.proofs.asked.of_part.Statement.{statement}
+use Rattle.line_questions.proofs.asked.of_part.Tie as tie
 
 vertices-requires : tie.Need-vertices-requires
 vertices-requires c κs = search needs

@@ -1,7 +1,7 @@
 use borrow.Author.Needs.{needs}
-use Rattle.interpolate.specs.Answers.{alongLent}
-use Rattle.interpolate.proofs.operation.lent.Statement.{statement}
-use Rattle.interpolate.proofs.operation.lent.Tie as tie
+use Rattle.line_questions.specs.Asked.{alongLent}
+use Rattle.line_questions.proofs.asked.lent.Statement.{statement}
+use Rattle.line_questions.proofs.asked.lent.Tie as tie
 
 reals-of-requires : tie.Need-reals-of-requires
 reals-of-requires c κs = search needs

@@ -1,8 +1,13 @@
 // Each question, of what is not refused. Where fewer rows are lent than it reads, there is no answer.
+use lent_distances::between_distances;
+use lent_distances::between_feed_distances;
 use stretches::Interpolated;
+use tables::Along;
+use tables::dists_of;
+use tables::reals_of;
 ghost use mathlib.Core.Path.{_≡_};
 ghost use Rattle.lengths.specs.Line.{lineOf};
-ghost use Rattle.interpolate.specs.Asked.{byDistLent, byFeedLent, verticesLent, polylineLent, positionLent};
+ghost use Rattle.line_questions.specs.Asked.{verticesLent, polylineLent, positionLent, alongLent};
 
 // What is asked of a line.
 pub enum Question {
@@ -14,30 +19,6 @@ pub enum Question {
     AlongVertices,
     // at a fraction of the part between the vertices nearest to two ends
     Polyline,
-}
-
-fn between_distances(lat: &[f64], lon: &[f64], d: &[f32], x: &[f64]) -> Interpolated
-    ensures { λ r. ⌜ r ≡ byDistLent (lineOf (now (lat .entry)) (now (lon .entry))) (now (d .entry)) (now (x .entry)) ⌝ }
-{
-    if d.len() < 2 {
-        return Interpolated::Nothing;
-    }
-    if x.len() < 1 {
-        return Interpolated::Nothing;
-    }
-    by_distance::interpolate_shape_by_dist(lat, lon, d[0], d[1], x[0])
-}
-
-fn between_feed_distances(lat: &[f64], lon: &[f64], d: &[f32], x: &[f64]) -> Interpolated
-    ensures { λ r. ⌜ r ≡ byFeedLent (lineOf (now (lat .entry)) (now (lon .entry))) (now (d .entry)) (now (x .entry)) ⌝ }
-{
-    if d.len() < 2 {
-        return Interpolated::Nothing;
-    }
-    if x.len() < 3 {
-        return Interpolated::Nothing;
-    }
-    by_distance::interpolate_shape_by_feed_dist(lat, lon, d[0], d[1], x[0], x[1], x[2])
 }
 
 fn of_line(lat: &[f64], lon: &[f64], x: &[f64]) -> Interpolated
@@ -68,7 +49,7 @@ fn of_part(lat: &[f64], lon: &[f64], y: &[f64], z: &[f64], x: &[f64]) -> Interpo
 }
 
 // The position asked for: y and z are the ends' latitudes and longitudes, d distances, x numbers.
-pub(crate) fn position(
+fn position(
     question: Question,
     lat: &[f64],
     lon: &[f64],
@@ -85,4 +66,25 @@ pub(crate) fn position(
         Question::AlongVertices => of_line(lat, lon, x),
         Question::Polyline => of_part(lat, lon, y, z, x),
     }
+}
+
+// The position asked for, of what is not refused.
+pub fn lent(reals: &[f64], dists: &[f32], question: Question, a: Along) -> Interpolated
+    ensures { λ r. ⌜ r ≡ alongLent (now (reals .entry)) (now (dists .entry)) question a ⌝ }
+{
+    let lat = a.line.lat;
+    let lon = a.line.lon;
+    let y = a.ends.lat;
+    let z = a.ends.lon;
+    let d = a.dists;
+    let x = a.numbers;
+    position(
+        question,
+        reals_of(reals, lat),
+        reals_of(reals, lon),
+        reals_of(reals, y),
+        reals_of(reals, z),
+        dists_of(dists, d),
+        reals_of(reals, x),
+    )
 }

@@ -1,8 +1,8 @@
 use borrow.Author.Needs.{needs}
 use borrow.Author.Tests.{le-ltb, lt-ltb}
-use Rattle.interpolate.specs.Asked.{byFeedLent}
-use Rattle.interpolate.proofs.asked.between_feed_distances.Statement.{statement}
-use Rattle.interpolate.proofs.asked.between_feed_distances.Tie as tie
+use Rattle.lent_distances.specs.Distances.{byFeedLent}
+use Rattle.lent_distances.proofs.distances.between_feed_distances.Statement.{statement}
+use Rattle.lent_distances.proofs.distances.between_feed_distances.Tie as tie
 
 returns : tie.Need-returns
 unfolding byFeedLent

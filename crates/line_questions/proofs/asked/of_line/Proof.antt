@@ -1,8 +1,8 @@
 use borrow.Author.Needs.{needs}
 use borrow.Author.Tests.{le-ltb, lt-ltb}
-use Rattle.interpolate.specs.Asked.{verticesLent}
-use Rattle.interpolate.proofs.asked.of_line.Statement.{statement}
-use Rattle.interpolate.proofs.asked.of_line.Tie as tie
+use Rattle.line_questions.specs.Asked.{verticesLent}
+use Rattle.line_questions.proofs.asked.of_line.Statement.{statement}
+use Rattle.line_questions.proofs.asked.of_line.Tie as tie
 
 returns : tie.Need-returns
 unfolding verticesLent
