@@ -1,4 +1,4 @@
--- `polylines::polyline::route_between` meets its contract.
+-- `stop_routes::between::route_between` meets its contract.
 use Prim.Native.Nat.{ℕ, _<_, _≤_}
 use mathlib.Core.Path.{_≡_}
 use mathlib.Core.List.{List}
@@ -6,10 +6,10 @@ use borrow.Author.Tests.{lt-ltb, le-ltb}
 use Rattle.lengths.specs.declared.line.Point.{Point}
 use Rattle.stretches.specs.declared.spot.Way.the-variants.{With, Against}
 use Rattle.nearest.specs.Nearest.{nearestOf}
-use Rattle.polylines.specs.Polyline.{routedOf, routeBetween}
-use Rattle.polylines.specs.declared.polyline.Routed.the-variants.{Nothing}
-use Rattle.polylines.proofs.polyline.route_between.Statement.{statement}
-use Rattle.polylines.proofs.polyline.route_between.Tie as tie
+use Rattle.stop_routes.specs.Routed.{routedOf, routeBetween}
+use Rattle.stop_routes.specs.declared.between.Routed.the-variants.{Nothing}
+use Rattle.stop_routes.proofs.between.route_between.Statement.{statement}
+use Rattle.stop_routes.proofs.between.route_between.Tie as tie
 
 module _ (line : List Point) (prev next : Point) {i j : ℕ} (a : i ≡ nearestOf line prev) (b : j ≡ nearestOf line next) where
   onward : i < j → routedOf line (record { first = i; last = j }) With prev next ≡ routeBetween line prev next

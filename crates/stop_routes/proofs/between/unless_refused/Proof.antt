@@ -1,4 +1,4 @@
--- `polylines::polyline::unless_refused` meets its contract.
+-- `stop_routes::between::unless_refused` meets its contract.
 use mathlib.Core.Path.{_≡_, sym, _∙_}
 use mathlib.Core.Bool.{true, false}
 use mathlib.Core.List.{List}
@@ -8,11 +8,11 @@ use Rattle.lengths.specs.declared.line.Point.{Point}
 use Rattle.line_parts.specs.declared.part.Part.{Part}
 use Rattle.stretches.specs.declared.spot.Way.{Way}
 use Rattle.routes.specs.Route.{routeOf}
-use Rattle.polylines.specs.Polyline.{roundabout, routedOf}
+use Rattle.stop_routes.specs.Routed.{roundabout, routedOf}
 use Rattle.routes.specs.declared.route.Route.{Route}
-use Rattle.polylines.specs.declared.polyline.Routed.the-variants.{Over, Nothing}
-use Rattle.polylines.proofs.polyline.unless_refused.Statement.{statement}
-use Rattle.polylines.proofs.polyline.unless_refused.Tie as tie
+use Rattle.stop_routes.specs.declared.between.Routed.the-variants.{Over, Nothing}
+use Rattle.stop_routes.proofs.between.unless_refused.Statement.{statement}
+use Rattle.stop_routes.proofs.between.unless_refused.Tie as tie
 
 module _ (line : List Point) (part : Part) (way : Way) (prev next : Point) {route : Route} (e : route ≡ routeOf line part) where
   short : lt (route .total) one ≡ true → Nothing ≡ routedOf line part way prev next

@@ -1,8 +1,8 @@
--- `polylines::polyline::is_roundabout` meets its contract.
+-- `stop_routes::between::is_roundabout` meets its contract.
 use lib.Ieee.{ofBits, ofInt}
-use Rattle.polylines.specs.Polyline.{roundabout}
-use Rattle.polylines.proofs.polyline.is_roundabout.Statement.{statement}
-use Rattle.polylines.proofs.polyline.is_roundabout.Tie as tie
+use Rattle.stop_routes.specs.Routed.{roundabout}
+use Rattle.stop_routes.proofs.between.is_roundabout.Statement.{statement}
+use Rattle.stop_routes.proofs.between.is_roundabout.Tie as tie
 
 metres-requires : tie.Need-metres-requires
 metres-requires c κs = tt
