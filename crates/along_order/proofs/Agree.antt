@@ -16,8 +16,9 @@ use Rattle.by_distance.specs.declared.span.Span.{Span}
 use Rattle.by_distance.specs.declared.span.Spanned.the-variants.{Over, Short}
 use Rattle.routes.specs.Route.{routeOf, alongOf, alongVertices}
 use Rattle.routes.specs.declared.route.Route.{Route}
-use Rattle.polylines.specs.Polyline.{routeBetween, spotAlong, polylineOf}
-use Rattle.polylines.specs.declared.polyline.Routed.the-variants.{Over as Routed·over, Nothing as Routed·nothing}
+use Rattle.polylines.specs.Polyline.{spotAlong, polylineOf}
+use Rattle.stop_routes.specs.Routed.{routeBetween}
+use Rattle.stop_routes.specs.declared.between.Routed.the-variants.{Over as Routed·over, Nothing as Routed·nothing}
 
 module _ (line : List Point) (frac : Float) where
   -- by distance

@@ -27,9 +27,10 @@ use Rattle.stretches.specs.declared.spot.Way.the-variants.{With, Against}
 use Rattle.routes.specs.Route.{nano, routeOf, insideOf, alongOf}
 use Rattle.routes.specs.declared.route.Route.{Route}
 use Rattle.nearest.specs.Nearest.{nearestOf}
-use Rattle.polylines.specs.Polyline.{roundabout, routedOf, routeBetween, spotAlong}
-use Rattle.polylines.specs.declared.polyline.Routed.{Routed}
-use Rattle.polylines.specs.declared.polyline.Routed.the-variants.{Over, Nothing}
+use Rattle.polylines.specs.Polyline.{spotAlong}
+use Rattle.stop_routes.specs.Routed.{roundabout, routedOf, routeBetween}
+use Rattle.stop_routes.specs.declared.between.Routed.{Routed}
+use Rattle.stop_routes.specs.declared.between.Routed.the-variants.{Over, Nothing}
 use Rattle.along_order.specs.Order.{rankOf, NoEarlier}
 use Rattle.along_order.specs.Granted.{Lengths}
 use Rattle.along_order.proofs.Clamp.{zero-zero, clamp-above, clamp-mono, Aim}

@@ -13,8 +13,8 @@ use Rattle.calibrate.specs.Answers.{Perhaps, none, one}
 use Rattle.stretches.specs.declared.drawing.Interpolated.{Interpolated}
 use Rattle.stretches.specs.declared.drawing.Interpolated.the-variants.{At, Nothing}
 use Rattle.interpolate.specs.Answers.{interpolationOf}
-use Rattle.interpolate.specs.declared.asked.Question.{Question}
-use Rattle.interpolate.specs.declared.asked.Question.the-variants.{ByDistance, ByFeedDistance, AlongVertices, Polyline}
+use Rattle.line_questions.specs.declared.asked.Question.{Question}
+use Rattle.line_questions.specs.declared.asked.Question.the-variants.{ByDistance, ByFeedDistance, AlongVertices, Polyline}
 use Rattle.exports_line.specs.declared.scale.ScaleTold.{ScaleTold}
 use Rattle.exports_line.specs.declared.metres.MetresTold.{MetresTold}
 use Rattle.exports_line.specs.declared.position.PositionTold.{PositionTold}

@@ -1,8 +1,8 @@
 // The position at a fraction.
 use ids::Span;
 use interpolate::Interpolation;
-use interpolate::Question;
 use interpolate::interpolate;
+use line_questions::Question;
 use tables::Along;
 use tables::Points;
 ghost use mathlib.Core.Path.{_≡_};

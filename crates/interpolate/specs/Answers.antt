@@ -1,18 +1,15 @@
 -- Interpolation alone as an operation: the first refusal that applies, or the position asked for.
-use mathlib.Core.List.{List}
-use lib.Ieee.{Float}
 use Rattle.measure.specs.Answer.{Answer, refused, given}
 use Rattle.answers.specs.Answers.{unlessRefused}
-use Rattle.lengths.specs.Line.{lineOf}
-use Rattle.tables.specs.Pools.{Pools, partOf}
+use Rattle.tables.specs.Pools.{Pools}
 use Rattle.tables.specs.Bounds.{chartBounds}
 use Rattle.refusals.specs.Refuse.{refusalOf}
 use Rattle.tables.specs.declared.lent.Along.{Along}
 use Rattle.geometry_checks.specs.Operations.{interpolationCauses}
 use Rattle.stretches.specs.declared.drawing.Interpolated.{Interpolated}
 use Rattle.stretches.specs.declared.drawing.Interpolated.the-variants.{At, Nothing}
-use Rattle.interpolate.specs.Asked.{positionLent}
-use Rattle.interpolate.specs.declared.asked.Question.{Question}
+use Rattle.line_questions.specs.Asked.{alongLent}
+use Rattle.line_questions.specs.declared.asked.Question.{Question}
 use Rattle.interpolate.specs.declared.operation.Interpolation.{Interpolation}
 use Rattle.interpolate.specs.declared.operation.Interpolation.the-variants.{At as Drawn, Nothing as NoAnswer, Refused}
 
@@ -21,12 +18,6 @@ abbrev pub interpolationAnswer : Interpolation → Answer Interpolated
 interpolationAnswer (Drawn d) = given (At d)
 interpolationAnswer NoAnswer = given Nothing
 interpolationAnswer (Refused n) = refused n
-
--- the position asked for, of what is lent
-unfoldable pub alongLent : List Float → List Float → Question → Along → Interpolated
-alongLent reals dists question a =
-    positionLent question (lineOf (partOf reals (a .line .lat)) (partOf reals (a .line .lon))) (lineOf (partOf reals (a .ends .lat)) (partOf reals (a .ends .lon)))
-    (partOf dists (a .dists)) (partOf reals (a .numbers))
 
 unfoldable pub interpolationOf : Pools → Question → Along → Answer Interpolated
 interpolationOf p question a = unlessRefused (refusalOf p (interpolationCauses chartBounds a)) (alongLent (p .reals) (p .dists) question a)

@@ -1,3 +1,2 @@
--- `Asked`: the position that each question asks for. `Answers`: the operation, with its refusals.
-pub mod Asked
+-- `Answers`: the operation, with its refusals.
 pub mod Answers

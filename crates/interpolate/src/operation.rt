@@ -1,16 +1,14 @@
 // The operation.
-use crate::asked::Question;
-use crate::asked::position;
 use geometry_checks::check_interpolation;
+use line_questions::Question;
+use line_questions::lent;
 use stretches::Drawn;
 use stretches::Interpolated;
 use tables::Along;
 use tables::Bounds;
-use tables::dists_of;
-use tables::reals_of;
 ghost use mathlib.Core.Path.{_≡_};
 ghost use Rattle.tables.specs.Pools.{pools};
-ghost use Rattle.interpolate.specs.Answers.{interpolationAnswer, interpolationOf, alongLent};
+ghost use Rattle.interpolate.specs.Answers.{interpolationAnswer, interpolationOf};
 
 // What an interpolation answers.
 pub enum Interpolation {
@@ -19,27 +17,6 @@ pub enum Interpolation {
     Nothing,
     // the number of the refusal
     Refused(u32),
-}
-
-// The position asked for, of what is not refused.
-fn lent(reals: &[f64], dists: &[f32], question: Question, a: Along) -> Interpolated
-    ensures { λ r. ⌜ r ≡ alongLent (now (reals .entry)) (now (dists .entry)) question a ⌝ }
-{
-    let lat = a.line.lat;
-    let lon = a.line.lon;
-    let y = a.ends.lat;
-    let z = a.ends.lon;
-    let d = a.dists;
-    let x = a.numbers;
-    position(
-        question,
-        reals_of(reals, lat),
-        reals_of(reals, lon),
-        reals_of(reals, y),
-        reals_of(reals, z),
-        dists_of(dists, d),
-        reals_of(reals, x),
-    )
 }
 
 // The position that the question asks for, or none, or the first refusal that applies.

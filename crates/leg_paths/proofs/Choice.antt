@@ -14,7 +14,7 @@ use Rattle.ids.specs.declared.lookup.Found.the-variants.{At, Nothing}
 use Rattle.lengths.specs.Line.{lineOf}
 use Rattle.by_distance.specs.declared.span.Span.{Span as Distances}
 use Rattle.by_distance.specs.declared.span.Spanned.the-variants.{Over, Short}
-use Rattle.polylines.specs.Polyline.{routeBetween}
+use Rattle.stop_routes.specs.Routed.{routeBetween}
 use Rattle.trip_rows.specs.Rows.{shapeColumn}
 use Rattle.trip_samples.specs.declared.course.Course.{Course}
 use Rattle.chain_vertices.specs.Chain.{spanned, legChain}

@@ -9,9 +9,9 @@ use lengths::vertices;
 use paths::End;
 use paths::Path;
 use paths::feed_span;
-use polylines::Routed;
-use polylines::route_between;
 use seq_distances::seq_dist;
+use stop_routes::Routed;
+use stop_routes::route_between;
 use trip_rows::shape_column;
 use trip_samples::Course;
 use trip_samples::trip_shape_dist_affine;
@@ -20,7 +20,7 @@ ghost use Prim.Native.Nat.{_≤_};
 ghost use Rattle.ids.specs.Pool.{cellOf};
 ghost use Rattle.lengths.specs.Line.{lineOf};
 ghost use Rattle.paths.specs.Path.{overChain, overRoute};
-ghost use Rattle.polylines.specs.Polyline.{routeBetween};
+ghost use Rattle.stop_routes.specs.Routed.{routeBetween};
 ghost use Rattle.leg_paths.specs.Leg.{legCount, legStops, tripSpanned, tripPath, legPath};
 
 // Along the stops between.

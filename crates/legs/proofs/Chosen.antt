@@ -25,9 +25,10 @@ use Rattle.by_distance.specs.declared.span.Spanned.the-variants.{Over, Short}
 use Rattle.nearest.specs.Nearest.{largest, degreesOf, nearestFrom, nearestOf}
 use Rattle.routes.specs.Route.{routeOf, alongOf}
 use Rattle.routes.specs.declared.route.Route.{Route}
-use Rattle.polylines.specs.Polyline.{roundabout, routedOf, routeBetween, spotAlong}
-use Rattle.polylines.specs.declared.polyline.Routed.{Routed}
-use Rattle.polylines.specs.declared.polyline.Routed.the-variants.{Over as Routed·over, Nothing as Routed·nothing}
+use Rattle.polylines.specs.Polyline.{spotAlong}
+use Rattle.stop_routes.specs.Routed.{roundabout, routedOf, routeBetween}
+use Rattle.stop_routes.specs.declared.between.Routed.{Routed}
+use Rattle.stop_routes.specs.declared.between.Routed.the-variants.{Over as Routed·over, Nothing as Routed·nothing}
 use Rattle.along_order.specs.Order.{NoEarlier as Spot·noEarlier}
 use Rattle.along_order.specs.Granted.{Distance}
 use Rattle.along_order.proofs.Along.{Inside, never-earlier-on-line, never-earlier-polyline}

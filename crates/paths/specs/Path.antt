@@ -18,9 +18,10 @@ use Rattle.by_distance.specs.Interpolate.{spotOver}
 use Rattle.by_distance.specs.declared.span.Spanned.{Spanned}
 use Rattle.by_distance.specs.declared.span.Spanned.the-variants.{Over, Short}
 use Rattle.routes.specs.Route.{routeOf, alongOf}
-use Rattle.polylines.specs.Polyline.{routeBetween, spotAlong}
-use Rattle.polylines.specs.declared.polyline.Routed.{Routed}
-use Rattle.polylines.specs.declared.polyline.Routed.the-variants.{Over as Routed·over, Nothing as Routed·nothing}
+use Rattle.polylines.specs.Polyline.{spotAlong}
+use Rattle.stop_routes.specs.Routed.{routeBetween}
+use Rattle.stop_routes.specs.declared.between.Routed.{Routed}
+use Rattle.stop_routes.specs.declared.between.Routed.the-variants.{Over as Routed·over, Nothing as Routed·nothing}
 use Rattle.paths.specs.declared.path.Mark.{Mark}
 use Rattle.paths.specs.declared.path.Mark.the-variants.{At, Nothing}
 use Rattle.paths.specs.declared.path.Path.{Path}

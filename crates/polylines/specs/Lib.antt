@@ -1,2 +1,2 @@
--- What the contracts cite. `Polyline`: the part of a line between two stops.
+-- What the contracts cite. `Polyline`: the place and the position at a fraction of the way from a stop to the next.
 pub mod Polyline

@@ -7,7 +7,7 @@ use case_tables::put;
 use case_tables::span;
 use ids::Span;
 use interpolate::Interpolation;
-use interpolate::Question;
+use line_questions::Question;
 use probe_pools::asked;
 use probe_pools::write;
 use tables::Along;

@@ -1,0 +1,2 @@
+-- `Distances`: the place between two distances of lent rows.
+pub mod Distances

@@ -1,0 +1,2 @@
+-- `Asked`: the position that each question asks for.
+pub mod Asked

@@ -1,0 +1,2 @@
+-- What the contracts cite. `Routed`: the route from a stop to the next.
+pub mod Routed
