@@ -3,5 +3,4 @@
 // cancelled, has no updates, or has no call and cannot be pinned; else the first refusal that applies.
 mod operation;
 
-pub use operation::Estimated;
 pub use operation::estimate;

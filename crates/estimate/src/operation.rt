@@ -1,7 +1,9 @@
 // The estimate.
 use calls::collect;
 use checks::check_estimate;
-use legs::Place;
+use estimate_answers::Estimated;
+use estimate_answers::answered;
+use estimate_answers::refused;
 use plans::at_turn;
 use plans::pin;
 use plans::reported;
@@ -11,7 +13,6 @@ use tables::Bounds;
 use tables::Tables;
 use update_rows::fill_arrivals;
 use update_rows::fill_departures;
-use voyages::Estimate;
 use voyages::Outcome;
 ghost use mathlib.Core.Path.{_≡_};
 ghost use Rattle.tables.specs.Pools.{pools};
@@ -22,16 +23,8 @@ ghost use Rattle.calls.specs.Calls.{reportedOf, callRows, callStops};
 ghost use Rattle.sailings.specs.Sailing.{clockOf};
 ghost use Rattle.voyages.specs.Outcome.{outcomeAt};
 ghost use Rattle.plans.specs.Plan.{voyageOf};
-ghost use Rattle.estimate.specs.Answers.{estimateAnswer, estimateOf, calledOf};
-
-// What an estimate answers.
-pub enum Estimated {
-    // the estimate, and the place that its coordinates are drawn from
-    At(Estimate, Place),
-    Silence,
-    // the number of the refusal
-    Refused(u32),
-}
+ghost use Rattle.estimate_answers.specs.Answers.{estimateAnswer};
+ghost use Rattle.estimate.specs.Answers.{estimateOf, calledOf};
 
 // With these calls, one or more.
 fn called(
@@ -118,10 +111,7 @@ pub fn estimate(
 {
     let refusal = check_estimate(bytes, words, times, reals, dists, Bounds::chart(), t);
     if refusal != 0 {
-        return Estimated::Refused(refusal);
+        return refused(refusal);
     }
-    match outcome(bytes, words, times, reals, dists, t) {
-        Outcome::At(estimate, place) => Estimated::At(estimate, place),
-        Outcome::Silence => Estimated::Silence,
-    }
+    answered(outcome(bytes, words, times, reals, dists, t))
 }

@@ -2,7 +2,7 @@
 use crate::asked;
 use case_tables::layout;
 use case_tables::limits;
-use estimate::Estimated;
+use estimate_answers::Estimated;
 use libc::STDOUT_FILENO;
 use paths::Status;
 use voyages::Estimate;

@@ -4,8 +4,8 @@ mod board; // board.rt: the Board's line
 mod place; // place.rt: the place beside the estimate
 
 pub use board::print_line;
-use estimate::Estimated;
 use estimate::estimate;
+use estimate_answers::Estimated;
 pub use place::print_place;
 
 // The estimate of the case that the pools hold.

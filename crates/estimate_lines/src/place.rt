@@ -1,6 +1,6 @@
 // The place beside the estimate.
 use crate::asked;
-use estimate::Estimated;
+use estimate_answers::Estimated;
 use legs::Place;
 use libc::STDOUT_FILENO;
 use paths::Line;

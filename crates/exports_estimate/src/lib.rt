@@ -1,15 +1,12 @@
 // The C name of the estimate. It answers what `estimate::estimate` does, as one struct of numbers; nothing that is lent is written.
-mod answer; // answer.rt: an answer as numbers
-
-pub use answer::PlaceTold;
-pub use answer::Told;
-use answer::tell;
 use estimate::estimate;
+use estimate_told::Told;
+use estimate_told::tell;
 use tables::Tables;
 ghost use mathlib.Core.Path.{_≡_};
 ghost use Rattle.tables.specs.Pools.{pools};
 ghost use Rattle.estimate.specs.Answers.{estimateOf};
-ghost use Rattle.exports_estimate.specs.Told.{toldOf};
+ghost use Rattle.estimate_told.specs.Told.{toldOf};
 
 #[no_mangle]
 pub extern "C" fn zebumorn_estimate(

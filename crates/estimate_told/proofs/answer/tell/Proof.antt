@@ -1,7 +1,7 @@
--- `exports_estimate::answer::tell` meets its contract.
+-- `estimate_told::answer::tell` meets its contract.
 use borrow.Author.Needs.{needs}
-use Rattle.exports_estimate.proofs.answer.tell.Statement.{statement}
-use Rattle.exports_estimate.proofs.answer.tell.Tie as tie
+use Rattle.estimate_told.proofs.answer.tell.Statement.{statement}
+use Rattle.estimate_told.proofs.answer.tell.Tie as tie
 
 enum-known-e : tie.Need-enum-known-e
 enum-known-e c = search needs

@@ -14,8 +14,8 @@ use Rattle.paths.specs.declared.status.Status.the-variants.{StoppedAt, Incoming
 use Rattle.voyages.specs.declared.record.Estimate.{Estimate}
 use Rattle.voyages.specs.declared.record.Outcome.{Outcome}
 use Rattle.voyages.specs.declared.record.Outcome.the-variants.{At, Silence}
-use Rattle.exports_estimate.specs.declared.answer.PlaceTold.{PlaceTold}
-use Rattle.exports_estimate.specs.declared.answer.Told.{Told}
+use Rattle.estimate_told.specs.declared.answer.PlaceTold.{PlaceTold}
+use Rattle.estimate_told.specs.declared.answer.Told.{Told}
 
 abbrev pub statusNumber : Status → ℕ
 statusNumber StoppedAt = 1

@@ -1,5 +1,5 @@
 // An estimate's answer as numbers.
-use estimate::Estimated;
+use estimate_answers::Estimated;
 use legs::Place;
 use paths::Line;
 use paths::Status;
@@ -7,8 +7,8 @@ use stretches::Way;
 use voyages::Estimate;
 ghost use mathlib.Core.Bool.{cond};
 ghost use mathlib.Core.Path.{_≡_};
-ghost use Rattle.estimate.specs.Answers.{estimateAnswer};
-ghost use Rattle.exports_estimate.specs.Told.{statusNumber, lineNumber, wayNumber, placeTold, estimateTold, unanswered, toldOf};
+ghost use Rattle.estimate_answers.specs.Answers.{estimateAnswer};
+ghost use Rattle.estimate_told.specs.Told.{statusNumber, lineNumber, wayNumber, placeTold, estimateTold, unanswered, toldOf};
 
 // Where an estimate is, by document 01's place. `kind`: 1 at call `number`; 2 at the start of leg `number`; 3 at
 // its end; 4 on a stretch of it; 5 at the last vertex of its path, where the target met no stretch. `line`: 1 a

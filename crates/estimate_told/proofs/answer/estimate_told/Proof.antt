@@ -1,7 +1,7 @@
--- `exports_estimate::answer::estimate_told` meets its contract.
+-- `estimate_told::answer::estimate_told` meets its contract.
 use borrow.Author.Needs.{needs}
-use Rattle.exports_estimate.proofs.answer.estimate_told.Statement.{statement}
-use Rattle.exports_estimate.proofs.answer.estimate_told.Tie as tie
+use Rattle.estimate_told.proofs.answer.estimate_told.Statement.{statement}
+use Rattle.estimate_told.proofs.answer.estimate_told.Tie as tie
 
 status-number-requires : tie.Need-status-number-requires
 status-number-requires c κs = search needs

@@ -1,8 +1,8 @@
--- `exports_estimate::answer::place_told` meets its contract.
+-- `estimate_told::answer::place_told` meets its contract.
 use lib.Ieee.{ofBits}
 use borrow.Author.Needs.{needs}
-use Rattle.exports_estimate.proofs.answer.place_told.Statement.{statement}
-use Rattle.exports_estimate.proofs.answer.place_told.Tie as tie
+use Rattle.estimate_told.proofs.answer.place_told.Statement.{statement}
+use Rattle.estimate_told.proofs.answer.place_told.Tie as tie
 
 enum-known-place : tie.Need-enum-known-place
 enum-known-place c = search needs

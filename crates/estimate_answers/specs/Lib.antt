@@ -1,0 +1,2 @@
+-- `Answers`: what an estimate answers, in document 01's terms.
+pub mod Answers
