@@ -7,7 +7,7 @@ use borrow.Author.Tests.{eq-eqb, ne-eqb}
 use lib.Ieee.{Float}
 use lib.ListN.{length}
 use Rattle.ieee.specs.Single.{narrowOf}
-use Rattle.calibration.specs.declared.affine.Affine.{Affine}
+use Rattle.unit_scales.specs.declared.metres.Affine.{Affine}
 use Rattle.lengths.specs.Length.{lengthTo}
 use Rattle.lengths.specs.declared.line.Point.{Point}
 use Rattle.near_vertex.specs.Near.{startOf}

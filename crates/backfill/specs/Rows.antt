@@ -5,7 +5,7 @@ use mathlib.Core.List.{List, [], _∷_, map}
 use lib.Dec.{eqb}
 use lib.Ieee.{Float, binary64, sub, div}
 use Rattle.ieee.specs.Single.{narrowOf}
-use Rattle.calibration.specs.declared.affine.Affine.{Affine}
+use Rattle.unit_scales.specs.declared.metres.Affine.{Affine}
 use Rattle.backfill.specs.declared.row.Distance.{Distance}
 use Rattle.backfill.specs.declared.row.Unit.{Unit}
 use Rattle.backfill.specs.declared.row.Unit.the-variants.{Metres, Feed, Unknown}

@@ -6,8 +6,8 @@ use Rattle.lengths.specs.declared.line.Point.{Point}
 use Rattle.projection.specs.declared.cursor.Position.{Position}
 use Rattle.projection.specs.declared.cursor.Position.the-variants.{Known, Missing}
 use Rattle.calibration.specs.Affine.{shapeDistAffine}
-use Rattle.calibration.specs.declared.affine.Calibrated.{Calibrated}
-use Rattle.calibration.specs.declared.affine.Calibrated.the-variants.{By, Nothing as NoAnswer}
+use Rattle.unit_scales.specs.declared.metres.Calibrated.{Calibrated}
+use Rattle.unit_scales.specs.declared.metres.Calibrated.the-variants.{By, Nothing as NoAnswer}
 use Rattle.calibration.specs.declared.affine.Sample.{Sample}
 use Rattle.backfill.specs.declared.row.Distance.{Distance}
 use Rattle.backfill.specs.declared.row.Unit.{Unit}

@@ -12,9 +12,9 @@ use Rattle.tables.specs.declared.lent.Samples.{Samples}
 use Rattle.answers.specs.Answers.{unlessRefused}
 use Rattle.geometry_checks.specs.Operations.{calibrationCauses}
 use Rattle.calibration.specs.Samples.{samplesAffine, samplesOf}
-use Rattle.calibration.specs.Scale.{snapUnitScale}
-use Rattle.calibration.specs.declared.affine.Calibrated.{Calibrated}
-use Rattle.calibration.specs.declared.affine.Calibrated.the-variants.{By, Nothing}
+use Rattle.unit_scales.specs.Scale.{snapUnitScale}
+use Rattle.unit_scales.specs.declared.metres.Calibrated.{Calibrated}
+use Rattle.unit_scales.specs.declared.metres.Calibrated.the-variants.{By, Nothing}
 use Rattle.calibrate.specs.declared.affine.Calibration.{Calibration}
 use Rattle.calibrate.specs.declared.affine.Calibration.the-variants.{By as Known, Nothing as Unknown, Refused}
 use Rattle.calibrate.specs.declared.scale.Snapped.{Snapped}

@@ -1,12 +1,12 @@
 // The metres along a line that the distances of samples stand for.
-use calibration::Affine;
-use calibration::Calibrated;
 use calibration::samples_affine;
 use geometry_checks::check_calibration;
 use tables::Bounds;
 use tables::Samples;
 use tables::dists_of;
 use tables::reals_of;
+use unit_scales::Affine;
+use unit_scales::Calibrated;
 ghost use mathlib.Core.Path.{_≡_};
 ghost use Rattle.tables.specs.Pools.{pools};
 ghost use Rattle.calibrate.specs.Answers.{calibrationAnswer, calibrationOf, lentAffine};

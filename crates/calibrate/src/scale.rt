@@ -37,5 +37,5 @@ pub fn snap_unit_scale(
     if numbers.len() == 0 {
         return Snapped::Nothing;
     }
-    Snapped::Scale(calibration::snap_unit_scale(numbers[0]))
+    Snapped::Scale(unit_scales::snap_unit_scale(numbers[0]))
 }

@@ -1,4 +1,3 @@
--- What the contracts cite. `Scale`: the units of distance, and the one that a ratio is near. `Affine`: the metres that a feed's distances stand for, by two samples. `Samples`: samples in columns.
-pub mod Scale
+-- What the contracts cite. `Affine`: the metres that a feed's distances stand for, by two samples. `Samples`: samples in columns.
 pub mod Affine
 pub mod Samples

@@ -8,8 +8,8 @@ use lib.ListN.{length, getD}
 use Rattle.lengths.specs.Line.{nowhere}
 use Rattle.lengths.specs.declared.line.Point.{Point}
 use Rattle.calibration.specs.Affine.{shapeDistAffine}
-use Rattle.calibration.specs.declared.affine.Calibrated.{Calibrated}
-use Rattle.calibration.specs.declared.affine.Calibrated.the-variants.{Nothing}
+use Rattle.unit_scales.specs.declared.metres.Calibrated.{Calibrated}
+use Rattle.unit_scales.specs.declared.metres.Calibrated.the-variants.{Nothing}
 use Rattle.calibration.specs.declared.affine.Sample.{Sample}
 
 -- the samples at these points with these distances, as many as there are of both

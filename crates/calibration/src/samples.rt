@@ -4,11 +4,11 @@ ghost use Prim.Native.Nat.{_<_};
 ghost use lib.ListN.{getD, length};
 ghost use Rattle.lengths.specs.Line.{lineOf};
 ghost use Rattle.calibration.specs.Samples.{noSample, samplesAffine, samplesOf};
-use crate::affine::Calibrated;
 use crate::affine::Sample;
 use crate::affine::shape_dist_affine;
 use lengths::vertex;
 use lengths::vertices;
+use unit_scales::Calibrated;
 
 // How many samples there are: as many as all three columns have rows.
 fn count(lat: &[f64], lon: &[f64], dist: &[f32]) -> usize

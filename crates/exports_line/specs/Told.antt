@@ -7,8 +7,8 @@ use Rattle.floats.specs.Number.{nought}
 use Rattle.measure.specs.Answer.{Answer, refused, given}
 use Rattle.tables.specs.Pools.{Pools}
 use Rattle.tables.specs.declared.lent.Along.{Along}
-use Rattle.calibration.specs.declared.affine.Calibrated.{Calibrated}
-use Rattle.calibration.specs.declared.affine.Calibrated.the-variants.{By, Nothing as Uncalibrated}
+use Rattle.unit_scales.specs.declared.metres.Calibrated.{Calibrated}
+use Rattle.unit_scales.specs.declared.metres.Calibrated.the-variants.{By, Nothing as Uncalibrated}
 use Rattle.calibrate.specs.Answers.{Perhaps, none, one}
 use Rattle.stretches.specs.declared.drawing.Interpolated.{Interpolated}
 use Rattle.stretches.specs.declared.drawing.Interpolated.the-variants.{At, Nothing}

@@ -11,7 +11,7 @@ use Rattle.ieee.specs.Number.{absOf}
 use Rattle.lengths.specs.declared.line.Point.{Point}
 use Rattle.line_parts.specs.Part.{wholeOf}
 use Rattle.line_parts.specs.declared.part.Part.{Part}
-use Rattle.calibration.specs.Scale.{decimal}
+use Rattle.unit_scales.specs.Scale.{decimal}
 use Rattle.projection.specs.Projection.{projectionOf}
 use Rattle.projection.specs.declared.cursor.Position.{Position}
 use Rattle.projection.specs.declared.cursor.Position.the-variants.{Missing}

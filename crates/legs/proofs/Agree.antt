@@ -8,7 +8,7 @@ use lib.Dec.{T}
 use lib.Ieee.{Float, binary64, le, fits}
 use Rattle.floats.specs.Number.{nought, one}
 use Rattle.lengths.specs.declared.line.Point.{Point}
-use Rattle.calibration.specs.declared.affine.Calibrated.{Calibrated}
+use Rattle.unit_scales.specs.declared.metres.Calibrated.{Calibrated}
 use Rattle.stretches.specs.Drawing.{drawOf, lastOf}
 use Rattle.stretches.specs.declared.spot.Spot.{Spot}
 use Rattle.stretches.specs.declared.spot.Spot.the-variants.{First, Stretch, Straight, NoStretch}

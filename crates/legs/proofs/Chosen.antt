@@ -11,8 +11,8 @@ use lib.ListN.{length}
 use Rattle.floats.specs.Number.{one}
 use Rattle.ieee.specs.Number.{absOf}
 use Rattle.lengths.specs.declared.line.Point.{Point}
-use Rattle.calibration.specs.declared.affine.Calibrated.{Calibrated}
-use Rattle.calibration.specs.declared.affine.Calibrated.the-variants.{By, Nothing as Uncalibrated}
+use Rattle.unit_scales.specs.declared.metres.Calibrated.{Calibrated}
+use Rattle.unit_scales.specs.declared.metres.Calibrated.the-variants.{By, Nothing as Uncalibrated}
 use Rattle.line_parts.specs.Part.{at, stretches, wholeOf}
 use Rattle.line_parts.specs.declared.part.Part.{Part}
 use Rattle.stretches.specs.declared.spot.Spot.the-variants.{Straight}

@@ -11,7 +11,7 @@ use lib.ListN.{length}
 use Rattle.floats.specs.Number.{nought, one}
 use Rattle.floats.proofs.Order.{trans-le}
 use Rattle.lengths.specs.declared.line.Point.{Point}
-use Rattle.calibration.specs.declared.affine.Calibrated.{Calibrated}
+use Rattle.unit_scales.specs.declared.metres.Calibrated.{Calibrated}
 use Rattle.line_parts.specs.Part.{stretches}
 use Rattle.line_parts.specs.declared.part.Part.{Part}
 use Rattle.stretches.specs.declared.spot.Spot.{Spot}

@@ -8,8 +8,8 @@ use Rattle.stretches.specs.declared.drawing.Interpolated.the-variants.{At, Noth
 use Rattle.projection.specs.declared.cursor.Position.{Position}
 use Rattle.projection.specs.declared.cursor.Position.the-variants.{Known, Missing}
 use Rattle.calibration.specs.Affine.{shapeDistAffine}
-use Rattle.calibration.specs.declared.affine.Calibrated.{Calibrated}
-use Rattle.calibration.specs.declared.affine.Calibrated.the-variants.{By, Nothing}
+use Rattle.unit_scales.specs.declared.metres.Calibrated.{Calibrated}
+use Rattle.unit_scales.specs.declared.metres.Calibrated.the-variants.{By, Nothing}
 
 -- a stop's position
 abbrev pub positionOf : Bool → Float → Float → Position

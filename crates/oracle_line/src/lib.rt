@@ -13,14 +13,14 @@ ghost use Rattle.lengths.specs.Line.{lineOf};
 ghost use Rattle.near_vertex.specs.Forward.{forwardLastIndex, forwardShapeIndex};
 ghost use Rattle.near_vertex.specs.Near.{orVertex};
 ghost use Rattle.projection.specs.Projection.{passedOf};
-ghost use Rattle.calibration.specs.Scale.{snapUnitScale};
+ghost use Rattle.unit_scales.specs.Scale.{snapUnitScale};
 ghost use Rattle.oracle_line.specs.Asked.{affineAsked, isBy, positionOf, scaleOr, startOr};
-use calibration::Calibrated;
 use calibration::Sample;
 use ids::Found;
 use lengths::Point;
 use projection::Cursor;
 use projection::Position;
+use unit_scales::Calibrated;
 
 #[no_mangle]
 pub extern "C" fn zebumorn_length_to(lat: &[f64], lon: &[f64], k: usize) -> f64
@@ -102,7 +102,7 @@ pub extern "C" fn zebumorn_pass(
 pub extern "C" fn zebumorn_snap_unit_scale(ratio: f64) -> f64
     ensures { λ r. ⌜ r ≡ snapUnitScale ratio ⌝ }
 {
-    calibration::snap_unit_scale(ratio)
+    unit_scales::snap_unit_scale(ratio)
 }
 
 // The start and the scale go to `a` and `b`, which stay as they were where there is no answer.

@@ -4,7 +4,6 @@ ghost use mathlib.Core.Path.{_≡_};
 ghost use Rattle.trip_samples.specs.Trip.{tripAffine};
 ghost use Rattle.oracle_line.specs.Asked.{isBy, scaleOr, startOr};
 ghost use Rattle.oracle_tables.specs.Asked.{courseOf, spanAt};
-use calibration::Calibrated;
 use ids::IdColumn;
 use ids::Span;
 use tables::Points;
@@ -13,6 +12,7 @@ use tables::StopTimes;
 use tables::Stops;
 use tables::Trips;
 use trip_samples::Course;
+use unit_scales::Calibrated;
 
 // The column whose start is word i and whose count is the next.
 fn span(words: &[u32], i: u32) -> Span

@@ -6,10 +6,10 @@ use by_distance::Span;
 use by_distance::Spanned;
 use by_distance::feed_metres;
 use by_distance::span_of;
-use calibration::Calibrated;
 use lengths::Point;
 use routes::Route;
 use stretches::Way;
+use unit_scales::Calibrated;
 
 // An end of a leg: a call, or the static stop before the first call.
 pub struct End {

@@ -9,7 +9,7 @@ use Rattle.days.specs.Days.{leap, yearDays, monthDays, daysBeforeMonth, daysBef
 use Rattle.days.specs.Read.{readDateOf}
 use Rattle.columns.specs.Rows.{some}
 use Rattle.ieee.specs.Number.{absOf}
-use Rattle.calibration.specs.Scale.{decimal, firstNear, nearUnit}
+use Rattle.unit_scales.specs.Scale.{decimal, firstNear, nearUnit}
 use Rattle.refs.specs.Refs.{journeyIdOf, afterColons, afterParts, afterKind, isKind, withoutLocPart}
 use Rattle.stop_digits.specs.Stops.{stopDigitsOf, digitsFirst, digitsLast, markedDigits}
 use Rattle.line_fits.specs.Lines.{bestOf}

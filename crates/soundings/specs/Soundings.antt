@@ -13,7 +13,7 @@ use Rattle.days.specs.Read.{readDateOf, refusalOf}
 use Rattle.days.specs.declared.date.ReadDate.{ReadDate}
 use Rattle.days.specs.declared.date.ReadDate.the-variants.{Day, NotADate}
 use Rattle.maths.specs.Series.{whole}
-use Rattle.calibration.specs.Scale.{decimal, snapUnitScale}
+use Rattle.unit_scales.specs.Scale.{decimal, snapUnitScale}
 use Rattle.refs.specs.Refs.{journeyIdOf}
 use Rattle.stop_digits.specs.Stops.{stopDigitsOf}
 use Rattle.departure_fits.specs.Departures.{away, ifRuns, nearer}

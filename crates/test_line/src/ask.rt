@@ -17,7 +17,7 @@ pub(crate) fn answer(lat: &[f64], lon: &[f64], words: &[u8]) {
     } else if begins(words, b"nearest ") {
         tell::number(nearest::nearest_idx(lat, lon, point(words, 8)));
     } else if begins(words, b"scale ") {
-        tell::double(calibration::snap_unit_scale(double(words, 6)));
+        tell::double(unit_scales::snap_unit_scale(double(words, 6)));
     } else if begins(words, b"affine ") {
         tell::calibrated(calibration::shape_dist_affine(
             lat,

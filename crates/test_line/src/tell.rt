@@ -1,8 +1,8 @@
 // The answers: a vertex as a number, floats as their bits in hexadecimal, `none` where there is none.
-use calibration::Calibrated;
 use ids::Found;
 use libc::STDOUT_FILENO;
 use stretches::Interpolated;
+use unit_scales::Calibrated;
 
 pub(crate) fn found(vertex: Found) {
     match vertex {

@@ -10,8 +10,8 @@ use Rattle.ids.specs.declared.lookup.Found.the-variants.{At, Nothing as NoRow}
 use Rattle.lengths.specs.Line.{lineOf}
 use Rattle.lengths.specs.declared.line.Point.{Point}
 use Rattle.calibration.specs.Affine.{shapeDistAffine}
-use Rattle.calibration.specs.declared.affine.Calibrated.{Calibrated}
-use Rattle.calibration.specs.declared.affine.Calibrated.the-variants.{Nothing}
+use Rattle.unit_scales.specs.declared.metres.Calibrated.{Calibrated}
+use Rattle.unit_scales.specs.declared.metres.Calibrated.the-variants.{Nothing}
 use Rattle.trip_samples.specs.Course.{isFlagged, rowAfter, sampleAt, sampleFrom, shapePart}
 use Rattle.trip_samples.specs.declared.course.Course.{Course}
 

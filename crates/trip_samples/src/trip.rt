@@ -6,9 +6,9 @@ use crate::row::first_sample;
 use crate::row::flagged;
 use crate::row::last_sample;
 use crate::row::sample;
-use calibration::Calibrated;
 use calibration::shape_dist_affine;
 use ids::Found;
+use unit_scales::Calibrated;
 ghost use mathlib.Core.Path.{_≡_};
 ghost use Rattle.trip_samples.specs.Trip.{rowsAffine, tripAffine};
 

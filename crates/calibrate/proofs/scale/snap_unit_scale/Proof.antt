@@ -4,7 +4,7 @@ use mathlib.Core.Path.{_≡_, refl}
 use mathlib.Core.List.{List, [], _∷_}
 use lib.Ieee.{Float, nan}
 use lib.ListN.{length, getD}
-use Rattle.calibration.specs.Scale.{snapUnitScale}
+use Rattle.unit_scales.specs.Scale.{snapUnitScale}
 use Rattle.answers.proofs.Told.{told, denied}
 use Rattle.calibrate.specs.Answers.{firstScale, none, one, snappedOf}
 use Rattle.calibrate.proofs.scale.snap_unit_scale.Statement.{statement}

@@ -1,6 +1,6 @@
 -- `leg_points::stops::is_apart` meets its contract.
 use lib.Ieee.{ofBits}
-use Rattle.calibration.specs.Scale.{decimal}
+use Rattle.unit_scales.specs.Scale.{decimal}
 use Rattle.leg_points.specs.Leg.{apart}
 use Rattle.leg_points.proofs.stops.is_apart.Statement.{statement}
 use Rattle.leg_points.proofs.stops.is_apart.Tie as tie

@@ -1,8 +1,8 @@
--- `calibration::affine::is_scale` meets its contract.
+-- `unit_scales::metres::is_scale` meets its contract.
 use lib.Ieee.{div, ofBits}
-use Rattle.calibration.specs.Affine.{isScale}
-use Rattle.calibration.proofs.affine.is_scale.Statement.{statement}
-use Rattle.calibration.proofs.affine.is_scale.Tie as tie
+use Rattle.unit_scales.specs.Metres.{isScale}
+use Rattle.unit_scales.proofs.metres.is_scale.Statement.{statement}
+use Rattle.unit_scales.proofs.metres.is_scale.Tie as tie
 
 returns : tie.Need-returns
 unfolding isScale div ofBits

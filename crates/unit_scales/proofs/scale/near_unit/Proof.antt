@@ -1,8 +1,8 @@
--- `calibration::scale::near_unit` meets its contract.
+-- `unit_scales::scale::near_unit` meets its contract.
 use lib.Ieee.{ofBits}
-use Rattle.calibration.specs.Scale.{decimal, nearUnit}
-use Rattle.calibration.proofs.scale.near_unit.Statement.{statement}
-use Rattle.calibration.proofs.scale.near_unit.Tie as tie
+use Rattle.unit_scales.specs.Scale.{decimal, nearUnit}
+use Rattle.unit_scales.proofs.scale.near_unit.Statement.{statement}
+use Rattle.unit_scales.proofs.scale.near_unit.Tie as tie
 
 abs-requires : tie.Need-abs-requires
 abs-requires c κs = tt

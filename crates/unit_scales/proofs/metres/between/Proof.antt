@@ -1,10 +1,10 @@
--- `calibration::affine::between` meets its contract.
+-- `unit_scales::metres::between` meets its contract.
 use mathlib.Core.Path.{sym, _∙_}
 use lib.Ieee.{ofBits}
-use Rattle.calibration.specs.Scale.{decimal}
-use Rattle.calibration.specs.Affine.{affineBetween}
-use Rattle.calibration.proofs.affine.between.Statement.{statement}
-use Rattle.calibration.proofs.affine.between.Tie as tie
+use Rattle.unit_scales.specs.Scale.{decimal}
+use Rattle.unit_scales.specs.Metres.{affineBetween}
+use Rattle.unit_scales.proofs.metres.between.Statement.{statement}
+use Rattle.unit_scales.proofs.metres.between.Tie as tie
 
 too-near-requires : tie.Need-too-near-requires
 too-near-requires c κs = tt

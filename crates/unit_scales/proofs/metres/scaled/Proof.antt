@@ -1,8 +1,8 @@
--- `calibration::affine::scaled` meets its contract.
+-- `unit_scales::metres::scaled` meets its contract.
 use mathlib.Core.Path.{sym, _∙_}
-use Rattle.calibration.specs.Affine.{scaled}
-use Rattle.calibration.proofs.affine.scaled.Statement.{statement}
-use Rattle.calibration.proofs.affine.scaled.Tie as tie
+use Rattle.unit_scales.specs.Metres.{scaled}
+use Rattle.unit_scales.proofs.metres.scaled.Statement.{statement}
+use Rattle.unit_scales.proofs.metres.scaled.Tie as tie
 
 is-scale-requires : tie.Need-is-scale-requires
 is-scale-requires c κs = tt

@@ -1,6 +1,6 @@
 // The metres of a unit of distance: a ratio that was measured, or a common unit near it.
 ghost use mathlib.Core.Path.{_≡_};
-ghost use Rattle.calibration.specs.Scale.{nearUnit, snapUnitScale};
+ghost use Rattle.unit_scales.specs.Scale.{nearUnit, snapUnitScale};
 use ieee::abs;
 
 // Whether a ratio is above zero and within a quarter of a unit.

@@ -1,9 +1,9 @@
--- `calibration::scale::snap_unit_scale` meets its contract: each unit is asked of in its turn.
+-- `unit_scales::scale::snap_unit_scale` meets its contract: each unit is asked of in its turn.
 use mathlib.Core.Path.{sym, _∙_}
 use lib.Ieee.{ofBits, ofInt}
-use Rattle.calibration.specs.Scale.{decimal, firstNear}
-use Rattle.calibration.proofs.scale.snap_unit_scale.Statement.{statement}
-use Rattle.calibration.proofs.scale.snap_unit_scale.Tie as tie
+use Rattle.unit_scales.specs.Scale.{decimal, firstNear}
+use Rattle.unit_scales.proofs.scale.snap_unit_scale.Statement.{statement}
+use Rattle.unit_scales.proofs.scale.snap_unit_scale.Tie as tie
 
 near-unit-requires : tie.Need-near-unit-requires
 near-unit-requires c κs = tt
