@@ -18,9 +18,10 @@ use Rattle.line_parts.proofs.Sums.{next-sum}
 use Rattle.stretches.proofs.Turns.{hit, miss}
 use Rattle.routes.specs.Route.{insideOf, alongOf}
 use Rattle.routes.specs.declared.route.Route.{Route}
-use Rattle.chain_vertices.specs.declared.chain.Chain.{Chain}
+use Rattle.chain_rows.specs.declared.chain.Chain.{Chain}
 use Rattle.chain_vertices.specs.declared.vertices.Here.{Here}
-use Rattle.chain_vertices.specs.Chain.{lineFrom, two}
+use Rattle.chain_lines.specs.Chain.{lineFrom}
+use Rattle.chain_stretches.specs.Two.{two}
 use Rattle.chain_vertices.specs.Vertices.{Stands}
 
 module _ (stop : ℕ → Position) (chain : Chain) where

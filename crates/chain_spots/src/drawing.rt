@@ -1,25 +1,23 @@
 // Where a chain is at a fraction of its length, and the position drawn there.
 use crate::passes::less;
 use crate::passes::stretch_of;
-use chain_vertices::Chain;
+use chain_rows::Chain;
+use chain_stretches::on_two;
 use chain_vertices::onward;
 use chain_vertices::seek;
-use lengths::Point;
 use line_parts::Part;
 use routes::Route;
 use stretches::Drawn;
 use stretches::Spot;
-use stretches::draw;
 use tables::StopTimes;
 use tables::Stops;
 ghost use mathlib.Core.Path.{_≡_};
-ghost use mathlib.Core.List.{[], _∷_};
 ghost use Prim.Native.Nat.{suc};
 ghost use lib.ListN.{length};
 ghost use Rattle.line_parts.specs.Part.{at};
 ghost use Rattle.stretches.specs.Drawing.{betweenOf, firstOf, lastOf, drawOf};
 ghost use Rattle.routes.specs.Route.{insideOf, alongOf};
-ghost use Rattle.chain_vertices.specs.Chain.{stopOf, lineFrom, two};
+ghost use Rattle.chain_lines.specs.Chain.{stopOf, lineFrom};
 ghost use Rattle.chain_vertices.specs.Marks.{Marked};
 
 // At a fraction between 0 and 1. Under a metre in all a chain is one straight stretch.
@@ -85,15 +83,6 @@ pub fn along(
         return Spot::NoStretch;
     }
     inside(bytes, words, reals, s, c, chain, marks, n, route, f)
-}
-
-// The position on the line of two points.
-pub fn on_two(p: Point, q: Point, spot: Spot) -> Drawn
-    ensures { λ r. ⌜ r ≡ drawOf (p ∷ q ∷ []) two spot ⌝ }
-{
-    let lat = [p.lat, q.lat];
-    let lon = [p.lon, q.lon];
-    draw(&lat, &lon, Part { first: 0, last: 1 }, spot)
 }
 
 // The position at the first vertex of a part, towards the next; bearing 0 where it has no other.

@@ -5,5 +5,4 @@ mod passes; // the length of a chain, and the stretch that a target meets
 
 pub use drawing::along;
 pub use drawing::drawn;
-pub use drawing::on_two;
 pub use passes::length_of;

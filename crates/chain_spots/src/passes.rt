@@ -1,9 +1,9 @@
 // The length of a chain, and the stretch of it that a target meets.
-use chain_vertices::Chain;
+use chain_rows::Chain;
+use chain_stretches::fraction;
+use chain_stretches::met;
 use chain_vertices::onward;
 use chain_vertices::seek;
-use ieee::clamp01;
-use ieee::max_of;
 use lengths::metres;
 use line_parts::Part;
 use stretches::Spot;
@@ -13,9 +13,9 @@ ghost use mathlib.Core.Path.{_≡_};
 ghost use lib.ListN.{length};
 ghost use Prim.Native.Nat.{_-_};
 ghost use Rattle.line_parts.specs.Part.{partLength};
-ghost use Rattle.stretches.specs.Search.{meets, fractionOf, stretchAt};
+ghost use Rattle.stretches.specs.Search.{stretchAt};
 ghost use Rattle.routes.specs.Route.{nano};
-ghost use Rattle.chain_vertices.specs.Chain.{stopOf, lineFrom};
+ghost use Rattle.chain_lines.specs.Chain.{stopOf, lineFrom};
 ghost use Rattle.chain_vertices.specs.Marks.{Marked};
 
 // a less b, and 0 where b is the greater.
@@ -66,24 +66,6 @@ pub fn length_of(
         j += 1;
     }
     sum
-}
-
-// Whether a target is on the stretch from the length `from` to the length `to`, or no more than 1e-9 past it.
-fn met(target: f64, from: f64, to: f64) -> bool
-    ensures { λ r. ⌜ r ≡ meets nano target from to ⌝ }
-{
-    if target >= from {
-        return target <= to + 0.000000001;
-    }
-    false
-}
-
-// Which fraction of that stretch is behind the target. A stretch counts as a millionth of a metre at
-// least.
-fn fraction(target: f64, from: f64, to: f64) -> f64
-    ensures { λ r. ⌜ r ≡ fractionOf target from to ⌝ }
-{
-    clamp01((target - from) / max_of(to - from, 0.000001))
 }
 
 // The first stretch of a part of a chain that a target meets.

@@ -9,11 +9,11 @@ use Rattle.ids.specs.declared.lookup.Found.the-variants.{At, Nothing}
 use Rattle.ids.proofs.ByteOrder.{clash}
 use Rattle.lengths.specs.declared.line.Point.{Point}
 use Rattle.projection.specs.declared.cursor.Position.{Position}
-use Rattle.chain_vertices.specs.declared.chain.Chain.{Chain}
-use Rattle.chain_vertices.specs.Thin.{turnedIf}
-use Rattle.chain_vertices.specs.Kept.{rowKept}
+use Rattle.chain_rows.specs.declared.chain.Chain.{Chain}
+use Rattle.chain_lines.specs.Thin.{turnedIf}
+use Rattle.chain_lines.specs.Kept.{rowKept}
 use Rattle.chain_vertices.specs.Vertices.{ahead, pointsAhead}
-use Rattle.chain_vertices.proofs.Thinning.{keptBelow, rows, pointAt, kept-rows}
+use Rattle.chain_lines.proofs.Thinning.{keptBelow, rows, pointAt, kept-rows}
 
 -- against the order of the rows, and with it
 module _ (q : ℕ → Bool) where

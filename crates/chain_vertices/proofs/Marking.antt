@@ -5,10 +5,10 @@ use mathlib.Core.Path.{_≡_, sym, ap, subst, _∙_}
 use mathlib.Core.Bool.{Bool}
 use mathlib.Core.List.{List}
 use Rattle.projection.specs.declared.cursor.Position.{Position}
-use Rattle.chain_vertices.specs.declared.kept.Last.{Last}
-use Rattle.chain_vertices.specs.Kept.{isKept, afterOf, lastOf, rowKept}
+use Rattle.chain_lines.specs.declared.kept.Last.{Last}
+use Rattle.chain_lines.specs.Kept.{isKept, afterOf, lastOf, rowKept}
 use Rattle.chain_vertices.specs.Marks.{putOf}
-use Rattle.chain_vertices.proofs.Thinning.{keptBelow, last-row}
+use Rattle.chain_lines.proofs.Thinning.{keptBelow, last-row}
 use Rattle.chain_vertices.proofs.Bits.{Begun, goes-on}
 
 module _ (stop : ℕ → Position) (i : ℕ) (last : Last) (s : Position) (keep : Bool) (l : last ≡ lastOf (keptBelow stop i)) (e : s ≡ stop i) (k : keep ≡ isKept last s) where

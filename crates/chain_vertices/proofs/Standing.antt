@@ -13,16 +13,17 @@ use Rattle.lengths.specs.Line.{nowhere}
 use Rattle.lengths.specs.declared.line.Point.{Point}
 use Rattle.projection.specs.declared.cursor.Position.{Position}
 use Rattle.line_parts.specs.Part.{at}
-use Rattle.chain_vertices.specs.declared.chain.Chain.{Chain}
+use Rattle.chain_rows.specs.declared.chain.Chain.{Chain}
 use Rattle.chain_vertices.specs.declared.vertices.Here.{Here}
-use Rattle.chain_vertices.specs.Thin.{turnedIf, chainFrom, ended}
-use Rattle.chain_vertices.specs.Chain.{lineFrom}
-use Rattle.chain_vertices.specs.Kept.{rowKept}
+use Rattle.chain_lines.specs.Thin.{turnedIf}
+use Rattle.chain_lines.specs.Chain.{lineFrom}
+use Rattle.chain_lines.specs.Kept.{rowKept}
 use Rattle.chain_vertices.specs.Marks.{Marked}
 use Rattle.chain_vertices.specs.Vertices.{rowOf, markedAhead, ahead, pointsAhead, Stands}
-use Rattle.chain_vertices.proofs.Thinning.{keptBelow, pointAt, at-most}
+use Rattle.chain_lines.proofs.Thinning.{keptBelow, pointAt}
 use Rattle.chain_vertices.proofs.Direction.{all-ahead, found-ahead, none-ahead, last-same}
-use Rattle.chain_vertices.proofs.Ends.{two-at-least, two-more-at-most, few-length, more-length, first-vertex, last-vertex, inner-vertex, inner-kept, turned-length}
+use Rattle.chain_lines.proofs.Ends.{first-vertex, last-vertex, inner-vertex, inner-kept}
+use Rattle.chain_lines.proofs.Line.{line-is}
 
 -- a row ahead is one of the trip's
 row-below : (b : Bool) (n m : ℕ) → m < n → cond b m (n - suc m) < n
@@ -43,36 +44,6 @@ module _ (stop : ℕ → Position) (chain : Chain) where
   abbrev kept : List Point
   kept = turnedIf (chain .reversed) (keptBelow stop (chain .count))
 
-  line-is : line ≡ ended (chain .from) (chain .to) kept
-  unfolding lineFrom chainFrom
-  line-is = refl
-
-  kept-count : length kept ≡ length (keptBelow stop (chain .count))
-  kept-count = turned-length (chain .reversed) (keptBelow stop (chain .count))
-
-  -- a chain has at least two points, and at most two more than its trip has rows
-  pub two-or-more : 2 ≤ length line
-  two-or-more = rw line-is (two-at-least (chain .from) (chain .to) kept)
-
-  pub rows-and-two : length line ≤ chain .count + 2
-  rows-and-two = rw line-is (omega (arith, two-more-at-most (chain .from) (chain .to) kept, kept-count, at-most stop (chain .count)))
-
-  -- it starts at one end of the leg, and ends at the other
-  pub starts-at : at line 0 ≡ chain .from
-  starts-at = rw line-is (first-vertex (chain .from) (chain .to) kept)
-
-  pub ends-at : at line (length line - 1) ≡ chain .to
-  ends-at =
-      let e : suc (length line - 1) ≡ length (ended (chain .from) (chain .to) kept) = omega (arith, two-or-more, ap length line-is) in
-      ap (λ (l : List Point). at l (length line - 1)) line-is ∙ last-vertex (chain .from) (chain .to) kept (length line - 1) e
-
-  -- as many as are kept, but two at least
-  pub few-kept : length (keptBelow stop (chain .count)) < 2 → length line ≡ 2
-  few-kept h = rw line-is (few-length (chain .from) (chain .to) kept (omega (arith, kept-count)))
-
-  pub more-kept : 2 ≤ length (keptBelow stop (chain .count)) → length line ≡ length (keptBelow stop (chain .count))
-  more-kept h = rw line-is (more-length (chain .from) (chain .to) kept (omega (arith, kept-count)) ∙ kept-count)
-
   module _ (marks : List ℕ) (right : Marked stop (chain .count) marks) (left : ℕ) (within : left ≤ chain .count) where
     -- the next mark is the next row that is kept
     next-kept : last (markedAhead chain marks) left ≡ last (λ (m : ℕ). rowKept stop (rowOf chain m)) left
@@ -92,7 +63,7 @@ module _ (stop : ℕ → Position) (chain : Chain) where
     -- at the first vertex
     pub starts : (m : ℕ) → last (markedAhead chain marks) (chain .count) ≡ At m → Stands stop chain (record { left = m; at = chain .from }) 0
     starts m e = record {
-      is = rw line-is (sym (first-vertex (chain .from) (chain .to) kept));
+      is = rw (line-is stop chain) (sym (first-vertex (chain .from) (chain .to) kept));
       within = omega (arith, next-within chain marks (chain .count) m (omega arith) e);
       rest = λ l. sym (after-first kept (sym (all-ahead stop chain) ∙ next-points marks right (chain .count) (omega arith) m e));
     }
@@ -100,7 +71,7 @@ module _ (stop : ℕ → Position) (chain : Chain) where
     pub starts-bare : last (markedAhead chain marks) (chain .count) ≡ Nothing → Stands stop chain (record { left = 0; at = chain .from }) 0
     unfolding ahead
     starts-bare e = record {
-      is = rw line-is (sym (first-vertex (chain .from) (chain .to) kept));
+      is = rw (line-is stop chain) (sym (first-vertex (chain .from) (chain .to) kept));
       within = omega arith;
       rest = λ l. let none : kept ≡ [] = sym (all-ahead stop chain) ∙ no-points marks right (chain .count) (omega arith) e in rw none;
     }
@@ -112,7 +83,7 @@ module _ (stop : ℕ → Position) (chain : Chain) where
   -- at the last
   pub arrives : (k : ℕ) → suc k ≡ length line → Stands stop chain (record { left = 0; at = chain .to }) k
   arrives k e = record {
-    is = rw line-is (sym (last-vertex (chain .from) (chain .to) kept k (e ∙ ap length line-is)));
+    is = rw (line-is stop chain) (sym (last-vertex (chain .from) (chain .to) kept k (e ∙ ap length (line-is stop chain))));
     within = omega arith;
     rest = λ l. absurd (omega arith);
   }
@@ -120,7 +91,7 @@ module _ (stop : ℕ → Position) (chain : Chain) where
   -- from one vertex to the next, which is not the last
   module _ (marks : List ℕ) (right : Marked stop (chain .count) marks) (here : Here) (k : ℕ) (at-k : Stands stop chain here k) (l : suc (suc k) < length line) where
     kept-next : suc k < length kept
-    kept-next = inner-kept (chain .from) (chain .to) kept (suc k) (omega arith) (omega (arith, ap length line-is))
+    kept-next = inner-kept (chain .from) (chain .to) kept (suc k) (omega arith) (omega (arith, ap length (line-is stop chain)))
 
     rest-is : pointsAhead stop chain (here .left) ≡ getD kept (suc k) nowhere ∷ drop (suc (suc k)) kept
     rest-is = at-k .rest (omega arith) ∙ drop-cons kept (suc k) nowhere kept-next
@@ -134,7 +105,7 @@ module _ (stop : ℕ → Position) (chain : Chain) where
         let p : pointAt stop (rowOf chain m) ≡ getD kept (suc k) nowhere = cc in
         let r : pointsAhead stop chain m ≡ drop (suc (suc k)) kept = cc in
         record {
-          is = p ∙ sym (rw line-is (inner-vertex (chain .from) (chain .to) kept (suc k) (omega arith) (omega (arith, ap length line-is))));
+          is = p ∙ sym (rw (line-is stop chain) (inner-vertex (chain .from) (chain .to) kept (suc k) (omega arith) (omega (arith, ap length (line-is stop chain)))));
           within = omega (arith, next-within chain marks (here .left) m (at-k .within) e);
           rest = λ h. r;
         }

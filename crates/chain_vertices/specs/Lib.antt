@@ -1,8 +1,3 @@
--- What the contracts cite. `Thin`: points of which those at the one kept before are left out, and the ends of a chain. `Stops`: the stops of rows between two
--- sequences. `Chain`: a leg's chain. `Kept`, `Marks`, `Vertices`: what the passes over its rows carry.
-pub mod Thin
-pub mod Stops
-pub mod Chain
-pub mod Kept
+-- What the contracts cite. `Marks`: a bit a row. `Vertices`: what a pass over a chain's vertices carries.
 pub mod Marks
 pub mod Vertices

@@ -6,7 +6,7 @@ use mathlib.Core.Path.{_≡_}
 use lib.Dec.{eqb}
 use lib.ListN.{getD, set}
 use Rattle.projection.specs.declared.cursor.Position.{Position}
-use Rattle.chain_vertices.specs.Kept.{rowKept}
+use Rattle.chain_lines.specs.Kept.{rowKept}
 
 -- bit i is set
 unfoldable pub isMarked : List ℕ → ℕ → Bool

@@ -7,12 +7,12 @@ use lib.ListN.{length, drop}
 use Rattle.lengths.specs.declared.line.Point.{Point}
 use Rattle.projection.specs.declared.cursor.Position.{Position}
 use Rattle.line_parts.specs.Part.{at}
-use Rattle.chain_vertices.specs.declared.chain.Chain.{Chain}
+use Rattle.chain_rows.specs.declared.chain.Chain.{Chain}
 use Rattle.chain_vertices.specs.declared.vertices.Here.{Here}
-use Rattle.chain_vertices.specs.Thin.{thinned, turnedIf}
-use Rattle.chain_vertices.specs.Stops.{pointOr, pointsBelow}
-use Rattle.chain_vertices.specs.Chain.{lineFrom}
-use Rattle.chain_vertices.specs.Kept.{rowKept}
+use Rattle.chain_lines.specs.Thin.{thinned, turnedIf}
+use Rattle.chain_lines.specs.Stops.{pointOr, pointsBelow}
+use Rattle.chain_lines.specs.Chain.{lineFrom}
+use Rattle.chain_lines.specs.Kept.{rowKept}
 use Rattle.chain_vertices.specs.Marks.{isMarked}
 
 -- the row that has m rows ahead of it, in the chain's direction

@@ -1,18 +1,18 @@
 // A bit a row: whether it is kept.
-use crate::chain::Chain;
-use crate::kept::Last;
-use crate::kept::after;
-use crate::kept::keeps;
-use crate::stop::no_point;
-use crate::stop::stop_of;
+use chain_lines::Last;
+use chain_lines::after;
+use chain_lines::keeps;
+use chain_lines::no_point;
+use chain_lines::stop_of;
+use chain_rows::Chain;
 use tables::StopTimes;
 use tables::Stops;
 ghost use mathlib.Core.Path.{_≡_};
 ghost use Prim.Native.Nat.{ℕ, _*_, _/_, _%_, _^_, _<_, _≤_};
 ghost use lib.ListN.{length, getD};
-ghost use Rattle.chain_vertices.specs.Chain.{stopOf};
-ghost use Rattle.chain_vertices.specs.Stops.{pointsBelow};
-ghost use Rattle.chain_vertices.specs.Thin.{thinned};
+ghost use Rattle.chain_lines.specs.Chain.{stopOf};
+ghost use Rattle.chain_lines.specs.Stops.{pointsBelow};
+ghost use Rattle.chain_lines.specs.Thin.{thinned};
 ghost use Rattle.chain_vertices.specs.Marks.{isMarked, putOf, Marked};
 
 // Sets bit i to `bit`, of a word that has none from it on.

@@ -1,9 +1,9 @@
 // From a vertex of a chain to the next.
-use crate::chain::Chain;
 use crate::marks::marked;
-use crate::stop::no_point;
-use crate::stop::point_or;
-use crate::stop::stop_of;
+use chain_lines::no_point;
+use chain_lines::point_or;
+use chain_lines::stop_of;
+use chain_rows::Chain;
 use ids::Found;
 use lengths::Point;
 use tables::StopTimes;
@@ -12,7 +12,7 @@ ghost use mathlib.Core.Path.{_≡_};
 ghost use Prim.Native.Nat.{suc};
 ghost use lib.ListN.{length};
 ghost use Rattle.ids.specs.First.{last};
-ghost use Rattle.chain_vertices.specs.Chain.{stopOf, lineFrom};
+ghost use Rattle.chain_lines.specs.Chain.{stopOf, lineFrom};
 ghost use Rattle.chain_vertices.specs.Marks.{Marked};
 ghost use Rattle.chain_vertices.specs.Vertices.{rowOf, markedAhead, Stands};
 

@@ -9,11 +9,11 @@ use Rattle.projection.specs.declared.cursor.Position.{Position}
 use Rattle.line_parts.specs.Part.{partLength}
 use Rattle.routes.specs.Route.{routeOf}
 use Rattle.routes.specs.declared.route.Route.{Route}
-use Rattle.chain_vertices.specs.declared.chain.Chain.{Chain}
-use Rattle.chain_vertices.specs.Chain.{lineFrom}
-use Rattle.chain_vertices.proofs.Thinning.{keptBelow}
-use Rattle.chain_vertices.proofs.Ends.{few-or-more}
-use Rattle.chain_vertices.proofs.Standing.{few-kept, more-kept}
+use Rattle.chain_rows.specs.declared.chain.Chain.{Chain}
+use Rattle.chain_lines.specs.Chain.{lineFrom}
+use Rattle.chain_lines.proofs.Thinning.{keptBelow}
+use Rattle.chain_lines.proofs.Ends.{few-or-more}
+use Rattle.chain_lines.proofs.Line.{few-kept, more-kept}
 use Rattle.chains.specs.Route.{chainRoute, verticesOf}
 
 module _ (stop : ℕ → Position) (chain : Chain) where

@@ -1,9 +1,9 @@
 // The questions that are asked of a chain. The rows are marked for each, a bit a row, in an array that is small
 // where they are few.
+use chain_rows::Chain;
 use chain_spots::along;
 use chain_spots::drawn;
 use chain_spots::length_of;
-use chain_vertices::Chain;
 use chain_vertices::mark;
 use line_parts::Part;
 use routes::Route;
@@ -14,7 +14,7 @@ use tables::Stops;
 ghost use mathlib.Core.Path.{_≡_};
 ghost use Prim.Native.Nat.{ℕ, _*_, _≤_};
 ghost use lib.ListN.{length, getD};
-ghost use Rattle.chain_vertices.specs.Chain.{chainLine};
+ghost use Rattle.chain_lines.specs.Chain.{chainLine};
 ghost use Rattle.chains.specs.Route.{chainRoute, onChain, verticesOf};
 
 // A spot and its position.

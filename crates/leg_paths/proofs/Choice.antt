@@ -17,8 +17,8 @@ use Rattle.by_distance.specs.declared.span.Spanned.the-variants.{Over, Short}
 use Rattle.stop_routes.specs.Routed.{routeBetween}
 use Rattle.trip_rows.specs.Rows.{shapeColumn}
 use Rattle.trip_samples.specs.declared.course.Course.{Course}
-use Rattle.chain_vertices.specs.Chain.{spanned, legChain}
-use Rattle.chain_vertices.specs.declared.chain.Chain.{Chain}
+use Rattle.chain_rows.specs.Rows.{spanned, legChain}
+use Rattle.chain_rows.specs.declared.chain.Chain.{Chain}
 use Rattle.paths.specs.Path.{overChain, overRoute, overSpan, pathOf}
 use Rattle.paths.specs.declared.path.End.{End}
 use Rattle.paths.specs.declared.path.Path.the-variants.{ByDistance}

@@ -9,8 +9,8 @@ use Rattle.ids.specs.declared.lookup.Found.{Found}
 use Rattle.ids.specs.declared.lookup.Found.the-variants.{At, Nothing}
 use Rattle.trip_samples.specs.Trip.{tripAffine}
 use Rattle.trip_samples.specs.declared.course.Course.{Course}
-use Rattle.chain_vertices.specs.Chain.{stopOf}
-use Rattle.chain_vertices.proofs.Standing.{two-or-more, rows-and-two, starts-at, ends-at}
+use Rattle.chain_lines.specs.Chain.{stopOf}
+use Rattle.chain_lines.proofs.Line.{two-or-more, rows-and-two, starts-at, ends-at}
 use Rattle.legs.specs.Granted.{Chained}
 use Rattle.paths.specs.declared.path.End.{End}
 use Rattle.legs.proofs.Chosen.{Chosen, straight, path-chosen}

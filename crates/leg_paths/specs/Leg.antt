@@ -13,8 +13,9 @@ use Rattle.by_distance.specs.declared.span.Spanned.{Spanned}
 use Rattle.trip_rows.specs.Rows.{tripSpan, shapeColumn}
 use Rattle.trip_samples.specs.Trip.{tripAffine}
 use Rattle.trip_samples.specs.declared.course.Course.{Course}
-use Rattle.chain_vertices.specs.Chain.{legChain, chainLine}
-use Rattle.chain_vertices.specs.declared.chain.Chain.{Chain}
+use Rattle.chain_rows.specs.Rows.{legChain}
+use Rattle.chain_lines.specs.Chain.{chainLine}
+use Rattle.chain_rows.specs.declared.chain.Chain.{Chain}
 use Rattle.paths.specs.Path.{feedSpan, pathOf}
 use Rattle.paths.specs.declared.path.End.{End}
 use Rattle.paths.specs.declared.path.Path.{Path}

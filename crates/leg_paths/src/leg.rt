@@ -1,6 +1,6 @@
 // The shape and the chain of a leg. A leg of no trip has no shape, and no stop between its ends.
-use chain_vertices::Chain;
-use chain_vertices::chain_of;
+use chain_rows::Chain;
+use chain_rows::chain_of;
 use ids::Found;
 use ids::Span;
 use paths::End;

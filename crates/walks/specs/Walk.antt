@@ -14,7 +14,7 @@ use Rattle.routes.specs.Route.{alongOf}
 use Rattle.routes.specs.declared.route.Route.{Route}
 use Rattle.polylines.specs.Polyline.{spotAlong}
 use Rattle.trip_samples.specs.declared.course.Course.{Course}
-use Rattle.chain_vertices.specs.Chain.{two}
+use Rattle.chain_stretches.specs.Two.{two}
 use Rattle.legs.specs.Walk.{onPath, walkOf}
 use Rattle.paths.specs.declared.path.End.{End}
 use Rattle.paths.specs.declared.path.Path.{Path}

@@ -1,7 +1,7 @@
 // The walk along a leg's path at a fraction of it.
 use by_distance::Span;
 use by_distance::spot_over;
-use chain_spots::on_two;
+use chain_stretches::on_two;
 use chains::chain_walk;
 use ids::Found;
 use leg_paths::leg_rows;

@@ -4,7 +4,7 @@ use native.Mathlib.Omega.{arith}
 use mathlib.Core.Path.{_≡_, refl, ap, subst, _∙_}
 use lib.Ieee.{ofBits}
 use Rattle.line_parts.specs.Part.{lengthFrom, partLength}
-use Rattle.chain_vertices.specs.Chain.{stopOf, lineFrom}
+use Rattle.chain_lines.specs.Chain.{stopOf, lineFrom}
 use Rattle.chain_vertices.specs.Vertices.{Stands}
 use Rattle.chain_spots.proofs.Turns.{stretch-is, sum-next}
 use Rattle.chain_spots.proofs.passes.length_of.Statement.{statement}

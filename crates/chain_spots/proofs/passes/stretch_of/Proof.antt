@@ -7,7 +7,7 @@ use Rattle.line_parts.specs.Part.{lengthFrom}
 use Rattle.stretches.specs.Search.{firstMet, stretchAt}
 use Rattle.stretches.proofs.Turns.{over}
 use Rattle.routes.specs.Route.{nano}
-use Rattle.chain_vertices.specs.Chain.{stopOf, lineFrom}
+use Rattle.chain_lines.specs.Chain.{stopOf, lineFrom}
 use Rattle.chain_vertices.specs.Vertices.{Stands}
 use Rattle.chain_spots.proofs.Turns.{stretch-is, sum-next, found, passed}
 use Rattle.chain_spots.proofs.passes.stretch_of.Statement.{statement}

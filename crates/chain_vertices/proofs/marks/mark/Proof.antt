@@ -4,14 +4,14 @@ use Prim.Native.Nat.{ℕ, _-_, _/_, _<_, _≤_}
 use native.Mathlib.Omega.{arith}
 use mathlib.Core.Path.{_≡_, refl, ap, _∙_}
 use lib.ListN.{length}
-use Rattle.chain_vertices.specs.Chain.{stopOf}
-use Rattle.chain_vertices.specs.Stops.{pointsBelow}
-use Rattle.chain_vertices.specs.Thin.{thinned}
-use Rattle.chain_vertices.specs.Kept.{lastOr, lastOf, rowKept}
-use Rattle.chain_vertices.specs.declared.kept.Last.{Last}
+use Rattle.chain_lines.specs.Chain.{stopOf}
+use Rattle.chain_lines.specs.Stops.{pointsBelow}
+use Rattle.chain_lines.specs.Thin.{thinned}
+use Rattle.chain_lines.specs.Kept.{lastOr, lastOf, rowKept}
+use Rattle.chain_lines.specs.declared.kept.Last.{Last}
 use Rattle.chain_vertices.proofs.Bits.{Begun, begins, low}
 use Rattle.chain_vertices.proofs.Marking.{marks-next, last-next}
-use Rattle.chain_vertices.proofs.Thinning.{keptBelow, at-most}
+use Rattle.chain_lines.proofs.Thinning.{keptBelow, at-most}
 use Rattle.chain_vertices.proofs.marks.mark.Statement.{statement}
 use Rattle.chain_vertices.proofs.marks.mark.Tie as tie
 

@@ -2,7 +2,7 @@
 use Prim.Native.Nat.{suc, _+_, _-_, _≤_}
 use native.Mathlib.Omega.{arith}
 use mathlib.Core.Path.{_≡_}
-use Rattle.chain_vertices.specs.Chain.{stopOf}
+use Rattle.chain_lines.specs.Chain.{stopOf}
 use Rattle.chain_vertices.specs.Vertices.{Stands}
 use Rattle.chain_vertices.proofs.Standing.{beyond}
 use Rattle.chain_vertices.proofs.vertices.seek.Statement.{statement}

@@ -2,8 +2,8 @@
 use borrow.Author.Needs.{needs}
 use native.Mathlib.Omega.{arith}
 use mathlib.Core.Path.{ap, _∙_}
-use Rattle.chain_vertices.specs.Chain.{stopOf}
-use Rattle.chain_vertices.proofs.Standing.{two-or-more}
+use Rattle.chain_lines.specs.Chain.{stopOf}
+use Rattle.chain_lines.proofs.Line.{two-or-more}
 use Rattle.chains.specs.Route.{verticesOf}
 use Rattle.chains.proofs.Whole.{vertices-are, route-is}
 use Rattle.chains.proofs.questions.route_in.Statement.{statement}
