@@ -1,12 +1,12 @@
--- `leg_drawing::leg::along_shape` meets its contract.
+-- `shape_drawing::shape::along_shape` meets its contract.
 use borrow.Author.Needs.{needs}
 use native.Mathlib.Omega.{arith}
 use mathlib.Core.Path.{refl}
 use lib.ListN.{length-take}
 use Rattle.point_columns.proofs.Rooms.{short, drawn}
-use Rattle.leg_drawing.proofs.Columns.{within, in-lats, in-lons, count, lats-written, lons-written}
-use Rattle.leg_drawing.proofs.leg.along_shape.Statement.{statement}
-use Rattle.leg_drawing.proofs.leg.along_shape.Tie as tie
+use Rattle.shape_drawing.proofs.Columns.{within, in-lats, in-lons, count, lats-written, lons-written}
+use Rattle.shape_drawing.proofs.shape.along_shape.Statement.{statement}
+use Rattle.shape_drawing.proofs.shape.along_shape.Tie as tie
 
 part-requires : tie.Need-part-requires
 part-requires c κs = tt
