@@ -1,7 +1,7 @@
--- `journey_points::stitch::is_other` meets its contract.
-use Rattle.journey_points.specs.Journey.{differ}
-use Rattle.journey_points.proofs.stitch.is_other.Statement.{statement}
-use Rattle.journey_points.proofs.stitch.is_other.Tie as tie
+-- `repeated_points::repeat::is_other` meets its contract.
+use Rattle.repeated_points.specs.Repeats.{differ}
+use Rattle.repeated_points.proofs.repeat.is_other.Statement.{statement}
+use Rattle.repeated_points.proofs.repeat.is_other.Tie as tie
 
 returns : tie.Need-returns
 unfolding differ

@@ -1,7 +1,7 @@
--- `journey_points::stitch::next` meets its contract.
+-- `repeated_points::repeat::next` meets its contract.
 use borrow.Author.Needs.{needs}
-use Rattle.journey_points.proofs.stitch.next.Statement.{statement}
-use Rattle.journey_points.proofs.stitch.next.Tie as tie
+use Rattle.repeated_points.proofs.repeat.next.Statement.{statement}
+use Rattle.repeated_points.proofs.repeat.next.Tie as tie
 
 enum-known-stop : tie.Need-enum-known-stop
 enum-known-stop c = search needs
