@@ -22,7 +22,8 @@ ghost use Rattle.geometry_checks.specs.Operations.{legCauses};
 ghost use Rattle.trip_rows.specs.Rows.{rowPosition};
 ghost use Rattle.trip_projection.specs.Vertices.{positionsFrom};
 ghost use Rattle.point_columns.specs.Answers.{drawingAnswer, drawnAnswer, latAfter, lonAfter};
-ghost use Rattle.leg_points.specs.Leg.{endsOf, stopsDrawn};
+ghost use Rattle.leg_parts.specs.Parts.{endsOf};
+ghost use Rattle.leg_points.specs.Leg.{stopsDrawn};
 ghost use Rattle.leg_drawing.specs.Trip.{foundPoints, askedPoints};
 
 // Draws the leg from stop to stop.

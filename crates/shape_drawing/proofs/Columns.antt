@@ -11,7 +11,7 @@ use Rattle.line_parts.specs.declared.part.Part.{Part}
 use Rattle.projection.specs.declared.cursor.Position.{Position}
 use Rattle.point_columns.specs.Drawn.{latsOf, lonsOf}
 use Rattle.leg_points.specs.Leg.{legPart, verticesOf, partDrawn}
-use Rattle.leg_points.specs.declared.ends.Ends.{Ends}
+use Rattle.leg_parts.specs.declared.ends.Ends.{Ends}
 use Rattle.leg_points.proofs.Between.{Within, part-within}
 
 pub part-lats : (lats lons : List Float) (a n : ℕ) → a + n ≤ length (lineOf lats lons) → latsOf (take n (drop a (lineOf lats lons))) ≡ take n (drop a lats)

@@ -11,7 +11,8 @@ ghost use Rattle.lengths.specs.Line.{lineOf};
 ghost use Rattle.trip_rows.specs.Rows.{rowPosition};
 ghost use Rattle.trip_projection.specs.Vertices.{positionsFrom};
 ghost use Rattle.point_columns.specs.Answers.{drawingAnswer, drawnAnswer, latAfter, lonAfter};
-ghost use Rattle.leg_points.specs.Leg.{endsOf, partDrawn};
+ghost use Rattle.leg_parts.specs.Parts.{endsOf};
+ghost use Rattle.leg_points.specs.Leg.{partDrawn};
 
 // The rows of a column from a up to e.
 fn rows<'a>(column: &'a [f64], a: usize, e: usize) -> &'a [f64]

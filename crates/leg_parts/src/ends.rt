@@ -1,7 +1,7 @@
 // The rows of a leg's two stops, counted from the trip's first.
 ghost use mathlib.Core.Path.{_≡_};
 ghost use Prim.Native.Nat.{min};
-ghost use Rattle.leg_points.specs.Leg.{endsOf};
+ghost use Rattle.leg_parts.specs.Parts.{endsOf};
 
 pub struct Ends {
     pub board: u32,
@@ -18,7 +18,7 @@ fn at_most(x: u32, most: u32) -> u32
 }
 
 // Each offset brought down to the trip's last row, and the two put in order.
-pub(crate) fn leg_ends(count: u32, from: u32, to: u32) -> Ends
+pub fn leg_ends(count: u32, from: u32, to: u32) -> Ends
     ensures { λ r. ⌜ r ≡ endsOf count from to ⌝ }
 {
     if count == 0 {

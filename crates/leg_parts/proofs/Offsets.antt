@@ -2,8 +2,8 @@
 use Prim.Native.Nat.{ℕ, _-_, _<_, _≤_, min, max}
 use native.Mathlib.Omega.{arith}
 use mathlib.Core.Path.{_≡_}
-use Rattle.leg_points.specs.Leg.{endsOf}
-use Rattle.leg_points.specs.declared.ends.Ends.{Ends}
+use Rattle.leg_parts.specs.Parts.{endsOf}
+use Rattle.leg_parts.specs.declared.ends.Ends.{Ends}
 
 module _ (count from to : ℕ) where
   pub ends-are : {b a : ℕ} → b ≡ min (min from (count - 1)) (min to (count - 1)) → a ≡ max (min from (count - 1)) (min to (count - 1)) →

@@ -1,9 +1,9 @@
--- `leg_points::stops::is_apart` meets its contract.
+-- `leg_parts::apart::is_apart` meets its contract.
 use lib.Ieee.{ofBits}
 use Rattle.calibration.specs.Scale.{decimal}
-use Rattle.leg_points.specs.Leg.{apart}
-use Rattle.leg_points.proofs.stops.is_apart.Statement.{statement}
-use Rattle.leg_points.proofs.stops.is_apart.Tie as tie
+use Rattle.leg_parts.specs.Parts.{apart}
+use Rattle.leg_parts.proofs.apart.is_apart.Statement.{statement}
+use Rattle.leg_parts.proofs.apart.is_apart.Tie as tie
 
 abs-requires : tie.Need-abs-requires
 abs-requires c κs = tt

@@ -1,9 +1,9 @@
--- `leg_points::ends::leg_ends` meets its contract.
+-- `leg_parts::ends::leg_ends` meets its contract.
 use borrow.Author.Needs.{needs}
 use native.Mathlib.Omega.{arith}
-use Rattle.leg_points.proofs.Offsets.{ends-are}
-use Rattle.leg_points.proofs.ends.leg_ends.Statement.{statement}
-use Rattle.leg_points.proofs.ends.leg_ends.Tie as tie
+use Rattle.leg_parts.proofs.Offsets.{ends-are}
+use Rattle.leg_parts.proofs.ends.leg_ends.Statement.{statement}
+use Rattle.leg_parts.proofs.ends.leg_ends.Tie as tie
 
 returns : tie.Need-returns
 returns c = let a = c .before .args in ends-are (a .count) (a .from) (a .to) (omega (arith, c .if1 .taken)) (omega (arith, c .if1 .taken))

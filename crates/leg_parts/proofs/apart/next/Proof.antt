@@ -1,7 +1,7 @@
--- `leg_points::stops::next` meets its contract.
+-- `leg_parts::apart::next` meets its contract.
 use borrow.Author.Needs.{needs}
-use Rattle.leg_points.proofs.stops.next.Statement.{statement}
-use Rattle.leg_points.proofs.stops.next.Tie as tie
+use Rattle.leg_parts.proofs.apart.next.Statement.{statement}
+use Rattle.leg_parts.proofs.apart.next.Tie as tie
 
 enum-known-stop : tie.Need-enum-known-stop
 enum-known-stop c = search needs
