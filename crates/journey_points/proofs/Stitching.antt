@@ -14,7 +14,8 @@ use Rattle.trip_projection.specs.Vertices.{positionsFrom}
 use Rattle.point_columns.specs.Drawn.{nextOf, latPut, lonPut, drawnFrom, latsOf, lonsOf}
 use Rattle.point_columns.specs.Sheet.{Sheet, sheet, drawOne, drawAll}
 use Rattle.point_columns.proofs.Sheets.{in-parts, one-most, counted, lat-done, lon-done}
-use Rattle.journey_points.specs.Journey.{differ, pointPosition, endPositions, ownPositions, legPositions, legsFrom}
+use Rattle.journey_points.specs.Journey.{pointPosition, endPositions, ownPositions, legPositions, legsFrom}
+use Rattle.repeated_points.specs.Repeats.{differ}
 use Rattle.journey_rules.specs.declared.lent.JourneyLegs.{JourneyLegs}
 
 -- ---- the columns keep their lengths

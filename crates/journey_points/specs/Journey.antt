@@ -1,9 +1,9 @@
 -- The points of a journey. Definitions only.
 use Prim.Native.Nat.{ℕ, zero, suc}
-use mathlib.Core.Bool.{Bool, cond, not, _&&_}
+use mathlib.Core.Bool.{cond}
 use mathlib.Core.List.{List, [], _∷_, _++_}
 use lib.Dec.{eqb, ltb}
-use lib.Ieee.{Float, eq}
+use lib.Ieee.{Float}
 use Rattle.ids.specs.Pool.{cellOf}
 use Rattle.ids.specs.declared.pool.Span.{Span}
 use Rattle.columns.specs.Rows.{bitOf}
@@ -15,10 +15,7 @@ use Rattle.trip_rows.specs.Rows.{realOf}
 use Rattle.trip_projection.specs.Vertices.{positionsFrom}
 use Rattle.point_columns.specs.Drawn.{drawnFrom}
 use Rattle.journey_rules.specs.declared.lent.JourneyLegs.{JourneyLegs}
-
--- two points differ in latitude or in longitude: zeros of either sign do not, and NaN does
-unfoldable pub differ : Point → Point → Bool
-differ q p = not (eq (q .lat) (p .lat) && eq (q .lon) (p .lon))
+use Rattle.repeated_points.specs.Repeats.{differ}
 
 -- a point of a table of points
 unfoldable pub pointAt : List Float → Points → ℕ → Point

@@ -5,50 +5,23 @@ use lengths::Point;
 use point_columns::later;
 use point_columns::put;
 use projection::Position;
+use repeated_points::next;
 use tables::Points;
 use trip_rows::real;
 ghost use mathlib.Core.Path.{_≡_};
 ghost use mathlib.Core.List.{_++_};
 ghost use Prim.Native.Nat.{_+_, _<_, _≤_};
 ghost use lib.ListN.{length, drop};
-ghost use Rattle.point_columns.specs.Drawn.{nextOf, latsOf, lonsOf};
+ghost use Rattle.point_columns.specs.Drawn.{latsOf, lonsOf};
 ghost use Rattle.point_columns.specs.Sheet.{sheet, drawOne, drawAll};
 ghost use Rattle.trip_projection.specs.Vertices.{positionsFrom};
-ghost use Rattle.journey_points.specs.Journey.{differ, pointAt, pointPosition, endAt, endPositions, legPositions, journeyPoints};
+ghost use Rattle.repeated_points.specs.Repeats.{differ};
+ghost use Rattle.journey_points.specs.Journey.{pointAt, pointPosition, endAt, endPositions, legPositions, journeyPoints};
 
 // The last point drawn, and the row of the next.
 pub(crate) struct Drawn {
     pub last: Position,
     pub at: usize,
-}
-
-// Whether two points differ in latitude or in longitude: zeros of either sign do not, and NaN does.
-fn is_other(q: Point, p: Point) -> bool
-    ensures { λ r. ⌜ r ≡ differ q p ⌝ }
-{
-    if q.lat == p.lat {
-        if q.lon == p.lon {
-            return false;
-        }
-        return true;
-    }
-    true
-}
-
-// What is drawn of a position after the last point drawn.
-fn next(last: Position, stop: Position) -> Position
-    ensures { λ r. ⌜ r ≡ nextOf differ last stop ⌝ }
-{
-    let Position::Known(p) = stop else {
-        return Position::Missing;
-    };
-    let Position::Known(q) = last else {
-        return stop;
-    };
-    if is_other(q, p) {
-        return stop;
-    }
-    Position::Missing
 }
 
 // Draws a position.

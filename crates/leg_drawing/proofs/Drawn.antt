@@ -10,7 +10,7 @@ use Rattle.projection.specs.Projection.{atStart}
 use Rattle.projection.specs.declared.cursor.Position.{Position}
 use Rattle.projection.proofs.Order.{in-order}
 use Rattle.leg_points.specs.Leg.{vertexOf, legPart, verticesOf, partDrawn, stopsDrawn, legPoints}
-use Rattle.leg_points.specs.declared.ends.Ends.{Ends}
+use Rattle.leg_parts.specs.declared.ends.Ends.{Ends}
 use Rattle.leg_points.proofs.Between.{Within, part-within}
 
 -- the vertex of the leg's first stop is never after that of its last, so that the Rust has no need to exchange them

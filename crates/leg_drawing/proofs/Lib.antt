@@ -1,4 +1,3 @@
--- `Columns`: a part of a line by its columns. `Trips`: the points of the trip found. `Drawn`: what holds of every leg's points.
-pub mod Columns
+-- `Trips`: the points of the trip found. `Drawn`: what holds of every leg's points.
 pub mod Trips
 pub mod Drawn

@@ -20,7 +20,8 @@ use Rattle.geometry_checks.specs.Operations.{legCauses}
 use Rattle.trip_ids.specs.Trips.{tripOf}
 use Rattle.trip_rows.specs.Rows.{rowPosition, shapeColumn, tripSpan, tripLine}
 use Rattle.trip_projection.specs.Vertices.{positionsFrom}
-use Rattle.leg_points.specs.Leg.{endsOf, partDrawn, stopsDrawn, legPoints}
+use Rattle.leg_parts.specs.Parts.{endsOf}
+use Rattle.leg_points.specs.Leg.{partDrawn, stopsDrawn, legPoints}
 use Rattle.leg_drawing.specs.Trip.{tripPoints, foundPoints, askedPoints}
 use Rattle.point_columns.proofs.Rooms.{Right}
 

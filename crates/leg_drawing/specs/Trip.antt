@@ -12,7 +12,8 @@ use Rattle.tables.specs.declared.lent.Tables.{Tables}
 use Rattle.trip_ids.specs.Trips.{tripOf}
 use Rattle.trip_rows.specs.Rows.{rowPosition, tripLine}
 use Rattle.trip_projection.specs.Vertices.{positionsFrom}
-use Rattle.leg_points.specs.Leg.{endsOf, legPoints}
+use Rattle.leg_parts.specs.Parts.{endsOf}
+use Rattle.leg_points.specs.Leg.{legPoints}
 
 -- of a trip, from one offset of its stop times to another
 unfoldable pub tripPoints : List ℕ → List ℕ → List Float → Tables → ℕ → ℕ → ℕ → List Point

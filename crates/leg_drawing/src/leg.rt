@@ -2,10 +2,9 @@
 use geometry_checks::check_leg;
 use ids::Found;
 use leg_points::draw_stops;
-use leg_points::part;
 use lengths::vertices;
 use point_columns::Drawing;
-use point_columns::put_rows;
+use shape_drawing::along_shape;
 use tables::Bounds;
 use tables::LegAsked;
 use tables::StopTimes;
@@ -15,9 +14,7 @@ use trip_ids::by_key;
 use trip_rows::shape_column;
 use trip_rows::trip_span;
 ghost use mathlib.Core.Path.{_≡_};
-ghost use Prim.Native.Nat.{_-_, _<_, _≤_};
-ghost use lib.ListN.{length, take, drop};
-ghost use Rattle.lengths.specs.Line.{lineOf};
+ghost use lib.ListN.{length};
 ghost use Rattle.tables.specs.Pools.{pools};
 ghost use Rattle.tables.specs.Bounds.{chartBounds};
 ghost use Rattle.refusals.specs.Refuse.{refusalOf};
@@ -25,61 +22,9 @@ ghost use Rattle.geometry_checks.specs.Operations.{legCauses};
 ghost use Rattle.trip_rows.specs.Rows.{rowPosition};
 ghost use Rattle.trip_projection.specs.Vertices.{positionsFrom};
 ghost use Rattle.point_columns.specs.Answers.{drawingAnswer, drawnAnswer, latAfter, lonAfter};
-ghost use Rattle.leg_points.specs.Leg.{endsOf, partDrawn, stopsDrawn};
+ghost use Rattle.leg_parts.specs.Parts.{endsOf};
+ghost use Rattle.leg_points.specs.Leg.{stopsDrawn};
 ghost use Rattle.leg_drawing.specs.Trip.{foundPoints, askedPoints};
-
-// The rows of a column from a up to e.
-fn rows<'a>(column: &'a [f64], a: usize, e: usize) -> &'a [f64]
-    requires { ⌜ (a ≤ e) × (e ≤ length (now column)) ⌝ }
-    ensures { λ r. ⌜ now r ≡ take (e - a) (drop a (now (column .entry))) ⌝ }
-{
-    &column[a..e]
-}
-
-// Draws the leg along the shape, which has a point.
-fn along_shape(
-    bytes: &[u8],
-    words: &[u32],
-    reals: &[f64],
-    stops: Stops,
-    calls: StopTimes,
-    lats: &[f64],
-    lons: &[f64],
-    first: u32,
-    count: u32,
-    from: u32,
-    to: u32,
-    lat: &mut [f64],
-    lon: &mut [f64],
-) -> Drawing
-    requires { ⌜ 0 < length (lineOf (now lats) (now lons)) ⌝ }
-    requires { ⌜ length (now lat) ≡ length (now lon) ⌝ }
-    ensures { λ r. ⌜ drawingAnswer r ≡ drawnAnswer 0 (partDrawn (lineOf (now (lats .entry)) (now (lons .entry))) (positionsFrom (rowPosition (now (bytes .entry)) (now (words .entry)) (now (reals .entry)) stops calls) first count) (endsOf count from to)) (now (lat .entry)) (now (lon .entry)) ⌝ }
-    ensures { λ r. ⌜ now (lat .exit) ≡ latAfter 0 (partDrawn (lineOf (now (lats .entry)) (now (lons .entry))) (positionsFrom (rowPosition (now (bytes .entry)) (now (words .entry)) (now (reals .entry)) stops calls) first count) (endsOf count from to)) (now (lat .entry)) (now (lon .entry)) ⌝ }
-    ensures { λ r. ⌜ now (lon .exit) ≡ lonAfter 0 (partDrawn (lineOf (now (lats .entry)) (now (lons .entry))) (positionsFrom (rowPosition (now (bytes .entry)) (now (words .entry)) (now (reals .entry)) stops calls) first count) (endsOf count from to)) (now (lat .entry)) (now (lon .entry)) ⌝ }
-{
-    let leg = part(
-        bytes,
-        words,
-        reals,
-        stops,
-        calls,
-        lats,
-        lons,
-        first,
-        count,
-        from,
-        to,
-    );
-    let a = leg.first;
-    let e = leg.last + 1;
-    if lat.len() < e - a {
-        return Drawing::Refused(9);
-    }
-    put_rows(rows(lats, a, e), lat);
-    put_rows(rows(lons, a, e), lon);
-    Drawing::Points(e - a)
-}
 
 // Draws the leg from stop to stop.
 fn from_stop_to_stop(

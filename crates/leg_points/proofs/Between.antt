@@ -5,7 +5,7 @@ use native.Mathlib.Numerals.{add-one}
 use mathlib.Core.Path.{_≡_, refl, sym, ap, _∙_}
 use mathlib.Core.Bool.{Bool, true, false, cond}
 use mathlib.Core.List.{List, [], _∷_}
-use borrow.Author.Tests.{lt-ltb, le-ltb, ltb-true}
+use borrow.Author.Tests.{ltb-true}
 use lib.Dec.{ltb}
 use lib.ListN.{length, getD}
 use Rattle.ids.specs.declared.lookup.Found.{Found}
@@ -22,8 +22,9 @@ use Rattle.projection.specs.declared.cursor.Position.the-variants.{Known, Missi
 use Rattle.near_vertex.proofs.Range.{first-most}
 use Rattle.projection.proofs.Order.{gets-none}
 use Rattle.trip_projection.specs.Vertices.{positionsFrom}
-use Rattle.leg_points.specs.Leg.{partBetween, vertexOf, legPart}
-use Rattle.leg_points.specs.declared.ends.Ends.{Ends}
+use Rattle.leg_points.specs.Leg.{vertexOf, legPart}
+use Rattle.leg_parts.specs.Parts.{partBetween}
+use Rattle.leg_parts.specs.declared.ends.Ends.{Ends}
 use Rattle.leg_points.proofs.Positions.{position-at, vertex-run, second-run}
 
 whole-without : (line : List Point) (f : Found) → partBetween line f Nothing ≡ wholeOf line
@@ -57,13 +58,9 @@ module _ (line : List Point) (position : ℕ → Position) (first count : ℕ) (
           let n : leg .board + 1 + (leg .alight - leg .board) ≡ suc (leg .alight) = omega arith in
           vertex-run line position first count (leg .alight) t q a ∙ rw (g, f, z, second-run line position first count (leg .board + 1) (leg .alight - leg .board), n)
 
-      pub between : i < j → record { first = i; last = j } ≡ legPart line (positionsFrom position first count) leg
+      pub between : partBetween line (At i) (At j) ≡ legPart line (positionsFrom position first count) leg
       unfolding legPart
-      between h = rw (at-board, at-alight, lt-ltb _ _ h)
-
-      pub same-vertex : j ≤ i → wholeOf line ≡ legPart line (positionsFrom position first count) leg
-      unfolding legPart
-      same-vertex h = rw (at-board, at-alight, le-ltb _ _ h)
+      between = rw (at-board, at-alight)
 
 -- a part of a line that has a vertex
 pub record Within (line : List Point) (part : Part) : Type 0 where

@@ -12,10 +12,11 @@ use Rattle.projection.specs.declared.cursor.Position.the-variants.{Known, Missi
 use Rattle.point_columns.specs.Drawn.{nextOf, laterOf, drawnFrom, latsOf, lonsOf, latPut, lonPut, rowAfter}
 use Rattle.point_columns.proofs.Writing.{Drawn, starts, goes-on, ends, lat-ends, lon-ends}
 use Rattle.trip_projection.specs.Vertices.{positionsFrom}
-use Rattle.leg_points.specs.Leg.{apart, endsOf, stopsDrawn}
-use Rattle.leg_points.specs.declared.ends.Ends.{Ends}
+use Rattle.leg_points.specs.Leg.{stopsDrawn}
+use Rattle.leg_parts.specs.Parts.{endsOf, apart}
+use Rattle.leg_parts.specs.declared.ends.Ends.{Ends}
 use Rattle.leg_points.proofs.Positions.{part}
-use Rattle.leg_points.proofs.Offsets.{in-order, of-trip}
+use Rattle.leg_parts.proofs.Offsets.{in-order, of-trip}
 
 row-most : (drawn : Position) (k : ℕ) → rowAfter drawn k ≤ k + 1
 row-most (Known p) k = omega arith

@@ -1,5 +1,6 @@
 // The part of the shape that a leg is drawn along.
-use crate::ends::leg_ends;
+use leg_parts::between;
+use leg_parts::leg_ends;
 use line_parts::Part;
 use line_parts::whole;
 use projection::Cursor;
@@ -13,7 +14,8 @@ ghost use Rattle.lengths.specs.Line.{lineOf};
 ghost use Rattle.projection.specs.Projection.{cursorAfter};
 ghost use Rattle.trip_rows.specs.Rows.{rowPosition};
 ghost use Rattle.trip_projection.specs.Vertices.{positionsFrom};
-ghost use Rattle.leg_points.specs.Leg.{endsOf, legPart};
+ghost use Rattle.leg_points.specs.Leg.{legPart};
+ghost use Rattle.leg_parts.specs.Parts.{endsOf};
 
 // Where the cursor is after the stops of n rows from row `first + skip` on.
 fn run(
@@ -119,8 +121,5 @@ pub fn part(
         skip,
         left,
     );
-    if i < j {
-        return Part { first: i, last: j };
-    }
-    whole(lat, lon)
+    between(lat, lon, i, j)
 }

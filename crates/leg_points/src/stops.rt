@@ -1,7 +1,6 @@
 // The stops of a leg, where the trip has no shape.
-use crate::ends::leg_ends;
-use ieee::abs;
-use lengths::Point;
+use leg_parts::leg_ends;
+use leg_parts::next;
 use point_columns::later;
 use point_columns::put;
 use projection::Position;
@@ -12,36 +11,11 @@ ghost use mathlib.Core.Path.{_≡_};
 ghost use mathlib.Core.List.{_++_};
 ghost use Prim.Native.Nat.{_≤_};
 ghost use lib.ListN.{length, drop};
-ghost use Rattle.point_columns.specs.Drawn.{nextOf, latsOf, lonsOf};
+ghost use Rattle.point_columns.specs.Drawn.{latsOf, lonsOf};
 ghost use Rattle.trip_rows.specs.Rows.{rowPosition};
 ghost use Rattle.trip_projection.specs.Vertices.{positionsFrom};
-ghost use Rattle.leg_points.specs.Leg.{apart, endsOf, stopsDrawn};
-
-// Whether two points differ by more than 1e-9 in latitude or in longitude; NaN does not.
-fn is_apart(q: Point, p: Point) -> bool
-    ensures { λ r. ⌜ r ≡ apart q p ⌝ }
-{
-    if abs(q.lat - p.lat) > 1e-9 {
-        return true;
-    }
-    abs(q.lon - p.lon) > 1e-9
-}
-
-// What is drawn of a stop after the last point drawn.
-fn next(last: Position, stop: Position) -> Position
-    ensures { λ r. ⌜ r ≡ nextOf apart last stop ⌝ }
-{
-    let Position::Known(p) = stop else {
-        return Position::Missing;
-    };
-    let Position::Known(q) = last else {
-        return stop;
-    };
-    if is_apart(q, p) {
-        return stop;
-    }
-    Position::Missing
-}
+ghost use Rattle.leg_points.specs.Leg.{stopsDrawn};
+ghost use Rattle.leg_parts.specs.Parts.{endsOf};
 
 // Draws the stops from the one to the other, as far as the columns have room, and answers how many points they are.
 pub fn draw_stops(

@@ -2,8 +2,8 @@
 use borrow.Author.Needs.{needs}
 use native.Mathlib.Omega.{arith}
 use mathlib.Core.Path.{_∙_, sym}
-use Rattle.leg_points.proofs.Between.{no-rows, no-board, no-alight, between, same-vertex}
-use Rattle.leg_points.proofs.Offsets.{in-order, of-trip}
+use Rattle.leg_points.proofs.Between.{no-rows, no-board, no-alight, between}
+use Rattle.leg_parts.proofs.Offsets.{in-order, of-trip}
 use Rattle.leg_points.proofs.shape.part.Statement.{statement}
 use Rattle.leg_points.proofs.shape.part.Tie as tie
 
@@ -78,25 +78,17 @@ run-requires c κs = tt
 run-requires-2 : tie.Need-run-requires-2
 run-requires-2 c κs = tt
 
+between-requires : tie.Need-between-requires
+between-requires c κs = tt
+
 returns-4 : tie.Need-returns-4
 returns-4 c =
     let e = c .before .before .before .before .before .before .before .before .before .leg-ends .ensures in
     let n = c .before .before .before .before .before .before .before .before .before .before .if1 .left in
-    rw (← e)
-    (between _ _ _ _ _ (in-order _ _ _ e) (of-trip _ _ _ e (omega (arith, n))) (sym (c .before .before .before .before .before .before .before .before .row-position .ensures) ∙ c .before .before .before .before .before .before .enum-told .given .1) (sym (c .before .before .before .before .before .row-position2 .ensures) ∙ c .before .before .before .enum-told3 .given .1)
-    (c .before .before .run .ensures) (c .before .run2 .ensures) (c .if2 .taken))
-
-whole-requires-4 : tie.Need-whole-requires-4
-whole-requires-4 c κs = tt
-
-returns-5 : tie.Need-returns-5
-returns-5 c =
-    let e = c .before .before .before .before .before .before .before .before .before .before .leg-ends .ensures in
-    let n = c .before .before .before .before .before .before .before .before .before .before .before .if1 .left in
-    c .whole4 .ensures
+    c .between .ensures
     ∙ rw (← e)
-    (same-vertex _ _ _ _ _ (in-order _ _ _ e) (of-trip _ _ _ e (omega (arith, n))) (sym (c .before .before .before .before .before .before .before .before .before .row-position .ensures) ∙ c .before .before .before .before .before .before .before .enum-told .given .1) (sym (c .before .before .before .before .before .before .row-position2 .ensures) ∙ c .before .before .before .before .enum-told3 .given .1)
-    (c .before .before .before .run .ensures) (c .before .before .run2 .ensures) (c .before .if2 .left))
+    (between _ _ _ _ _ (in-order _ _ _ e) (of-trip _ _ _ e (omega (arith, n))) (sym (c .before .before .before .before .before .before .before .before .row-position .ensures) ∙ c .before .before .before .before .before .before .enum-told .given .1) (sym (c .before .before .before .before .before .row-position2 .ensures) ∙ c .before .before .before .enum-told3 .given .1)
+    (c .before .before .run .ensures) (c .before .run2 .ensures))
 
 pub part-spec : {M : Type 1} → statement M
-part-spec = tie.close (tie.spec whole-requires returns leg-ends-requires cast-row-position add-row-position row-position-requires enum-told enum-told-2 whole-requires-2 returns-2 cast-row-position-2 add-row-position-2 row-position-requires-2 enum-told-3 enum-told-4 whole-requires-3 returns-3 add-skip sub-left run-requires run-requires-2 returns-4 whole-requires-4 returns-5)
+part-spec = tie.close (tie.spec whole-requires returns leg-ends-requires cast-row-position add-row-position row-position-requires enum-told enum-told-2 whole-requires-2 returns-2 cast-row-position-2 add-row-position-2 row-position-requires-2 enum-told-3 enum-told-4 whole-requires-3 returns-3 add-skip sub-left run-requires run-requires-2 between-requires returns-4)

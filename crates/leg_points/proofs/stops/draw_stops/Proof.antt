@@ -4,7 +4,7 @@ use Prim.Native.Nat.{_-_, _≤_}
 use native.Mathlib.Omega.{arith}
 use mathlib.Core.Path.{_∙_, sym, refl}
 use Rattle.trip_rows.specs.Rows.{rowPosition}
-use Rattle.leg_points.proofs.Offsets.{in-order, of-trip}
+use Rattle.leg_parts.proofs.Offsets.{in-order, of-trip}
 use Rattle.leg_points.proofs.Going.{Going, start, more, counted, lat-done, lon-done, nothing-drawn, drawn-rows}
 use Rattle.leg_points.proofs.stops.draw_stops.Statement.{statement}
 use Rattle.leg_points.proofs.stops.draw_stops.Tie as tie

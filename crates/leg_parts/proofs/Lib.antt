@@ -1,0 +1,2 @@
+-- `Offsets`: the rows of a leg's stops.
+pub mod Offsets

@@ -1,0 +1,2 @@
+-- `Columns`: a part of a line by its columns.
+pub mod Columns
