@@ -3,9 +3,9 @@ use mathlib.Core.Path.{_≡_, refl}
 use mathlib.Core.Bool.{true, false}
 use lib.Ieee.{Float, nan, inf, fin, lt, div, neg, ofBits}
 use Rattle.ids.proofs.ByteOrder.{clash}
-use Rattle.columns.specs.Real.{isFinite}
-use Rattle.columns.proofs.real.finite.Statement.{statement}
-use Rattle.columns.proofs.real.finite.Tie as tie
+use Rattle.column_floats.specs.Real.{isFinite}
+use Rattle.column_floats.proofs.real.finite.Statement.{statement}
+use Rattle.column_floats.proofs.real.finite.Tie as tie
 
 below-top : (x : Float) → lt (inf true) x ≡ true → lt x (inf false) ≡ isFinite x
 unfolding lt isFinite

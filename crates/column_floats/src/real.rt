@@ -1,13 +1,13 @@
 // Columns of floats: whether some position is off the globe, or some number not finite.
-use crate::row::both;
-use crate::row::counted;
-use crate::row::read;
+use columns::both;
+use columns::counted;
+use columns::read;
 use measure::on_globe;
 ghost use mathlib.Core.Path.{_≡_};
 ghost use Prim.Native.Nat.{min};
 ghost use lib.ListN.{length};
-ghost use Rattle.columns.specs.Real.{isFinite, notFiniteAt, offGlobeAt};
+ghost use Rattle.column_floats.specs.Real.{isFinite, notFiniteAt, offGlobeAt};
 ghost use Rattle.columns.specs.Rows.{among, some};
 
 // Whether some row's position is off the globe: a NaN is.
 pub fn off_globe(lat: &[f64], lon: &[f64], flags: &[u8], all: bool) -> bool

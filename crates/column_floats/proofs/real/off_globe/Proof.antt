@@ -5,10 +5,10 @@ use mathlib.Core.Logic.{⊎-elim}
 use lib.ListN.{length}
 use mathlib.Core.Path.{sym, ap, _∙_}
 use mathlib.Core.Bool.{not}
-use Rattle.columns.specs.Real.{offGlobeAt}
+use Rattle.column_floats.specs.Real.{offGlobeAt}
 use Rattle.columns.proofs.Scan.{Scan, start, has-flag, found, pass, skip, end}
-use Rattle.columns.proofs.real.off_globe.Statement.{statement}
-use Rattle.columns.proofs.real.off_globe.Tie as tie
+use Rattle.column_floats.proofs.real.off_globe.Statement.{statement}
+use Rattle.column_floats.proofs.real.off_globe.Tie as tie
 
 abbrev Inv-loop : tie.InvT-loop
 Inv-loop lat lon flags all rows k₀ k = Scan all flags (offGlobeAt lat lon) (min (length lat) (length lon)) rows k

@@ -5,10 +5,10 @@ use mathlib.Core.Logic.{⊎-elim}
 use lib.ListN.{length}
 use mathlib.Core.Path.{refl, sym, ap, _∙_}
 use mathlib.Core.Bool.{not}
-use Rattle.columns.specs.Real.{notFiniteAt}
+use Rattle.column_floats.specs.Real.{notFiniteAt}
 use Rattle.columns.proofs.Scan.{Scan, start, has-flag, found, pass, skip, end}
-use Rattle.columns.proofs.real.not_finite.Statement.{statement}
-use Rattle.columns.proofs.real.not_finite.Tie as tie
+use Rattle.column_floats.proofs.real.not_finite.Statement.{statement}
+use Rattle.column_floats.proofs.real.not_finite.Tie as tie
 
 abbrev Inv-loop : tie.InvT-loop
 Inv-loop s flags all rows k₀ k = Scan all flags (notFiniteAt s) (length s) rows k
