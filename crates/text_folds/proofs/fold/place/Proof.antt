@@ -1,4 +1,4 @@
--- `texts::fold::place` meets its contract. The loop's invariant: the needle stands at no place so far.
+-- `text_folds::fold::place` meets its contract. The loop's invariant: the needle stands at no place so far.
 use borrow.Author.Count.{below-more, below-none}
 use borrow.Author.Needs.{needs}
 use native.Mathlib.Omega.{arith}
@@ -8,10 +8,10 @@ use mathlib.Core.List.{map}
 use mathlib.Core.Path.{_∙_, _≡_}
 use lib.ListN.{length}
 use Rattle.ids.specs.Bytes.{foldOf}
-use Rattle.texts.specs.Texts.{standsAt}
-use Rattle.texts.proofs.Texts.{place-hit, place-miss, stands}
-use Rattle.texts.proofs.fold.place.Statement.{statement}
-use Rattle.texts.proofs.fold.place.Tie as tie
+use Rattle.text_folds.specs.Folds.{standsAt}
+use Rattle.text_folds.proofs.Folds.{place-hit, place-miss, stands}
+use Rattle.text_folds.proofs.fold.place.Statement.{statement}
+use Rattle.text_folds.proofs.fold.place.Tie as tie
 
 abbrev Inv-loop : tie.InvT-loop
 Inv-loop fold s needle at₀ at = (at ≤ length s + 1) × ((j : ℕ) → j < at → standsAt (map (foldOf fold) needle) (map (foldOf fold) s) j ≡ false)

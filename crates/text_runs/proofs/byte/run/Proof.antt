@@ -1,4 +1,4 @@
--- `texts::text::run` meets its contract. The loop's invariant: no byte so far is of another kind.
+-- `text_runs::byte::run` meets its contract. The loop's invariant: no byte so far is of another kind.
 use borrow.Author.Count.{below-more, below-none}
 use borrow.Author.Tests.{not-true}
 use native.Mathlib.Omega.{arith}
@@ -7,10 +7,10 @@ use mathlib.Core.Bool.{false, not}
 use mathlib.Core.Path.{_∙_, _≡_, ap, sym}
 use lib.ListN.{length}
 use Rattle.ids.specs.Bytes.{isOf}
-use Rattle.texts.specs.Texts.{failsAt}
-use Rattle.texts.proofs.Texts.{run-ends, run-is-all}
-use Rattle.texts.proofs.text.run.Statement.{statement}
-use Rattle.texts.proofs.text.run.Tie as tie
+use Rattle.text_runs.specs.Runs.{failsAt}
+use Rattle.text_runs.proofs.Runs.{run-ends, run-is-all}
+use Rattle.text_runs.proofs.byte.run.Statement.{statement}
+use Rattle.text_runs.proofs.byte.run.Tie as tie
 
 abbrev Inv-loop : tie.InvT-loop
 Inv-loop s kind k₀ k = (k ≤ length s) × ((j : ℕ) → j < k → failsAt (isOf kind) s j ≡ false)

@@ -1,4 +1,4 @@
--- `texts::text::kept` meets its contract. The loop's invariant: the last byte of another kind is the last below k.
+-- `text_runs::byte::kept` meets its contract. The loop's invariant: the last byte of another kind is the last below k.
 use borrow.Author.Tests.{not-true}
 use native.Mathlib.Omega.{arith}
 use Prim.Native.Nat.{_≤_}
@@ -8,10 +8,10 @@ use lib.ListN.{length}
 use Rattle.ids.specs.Bytes.{isOf}
 use Rattle.ids.specs.First.{last}
 use Rattle.ids.proofs.Search.{last-skip}
-use Rattle.texts.specs.Texts.{failsAt}
-use Rattle.texts.proofs.Texts.{kept-ends, kept-is-none}
-use Rattle.texts.proofs.text.kept.Statement.{statement}
-use Rattle.texts.proofs.text.kept.Tie as tie
+use Rattle.text_runs.specs.Runs.{failsAt}
+use Rattle.text_runs.proofs.Runs.{kept-ends, kept-is-none}
+use Rattle.text_runs.proofs.byte.kept.Statement.{statement}
+use Rattle.text_runs.proofs.byte.kept.Tie as tie
 
 abbrev Inv-loop : tie.InvT-loop
 Inv-loop s kind k₀ k = (k ≤ length s) × (last (failsAt (isOf kind) s) (length s) ≡ last (failsAt (isOf kind) s) k)

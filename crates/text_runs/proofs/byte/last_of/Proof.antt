@@ -1,4 +1,4 @@
--- `texts::text::last_of` meets its contract. The loop's invariant: the last of all is the last below k.
+-- `text_runs::byte::last_of` meets its contract. The loop's invariant: the last of all is the last below k.
 use borrow.Author.Tests.{eq-eqb, ne-eqb}
 use native.Mathlib.Omega.{arith}
 use Prim.Native.Nat.{_≤_}
@@ -6,9 +6,9 @@ use mathlib.Core.Path.{_∙_, _≡_, refl, sym}
 use lib.ListN.{length}
 use Rattle.ids.specs.First.{last}
 use Rattle.ids.proofs.Search.{last-hit, last-miss, last-skip}
-use Rattle.texts.specs.Texts.{byteIs, lastByte}
-use Rattle.texts.proofs.text.last_of.Statement.{statement}
-use Rattle.texts.proofs.text.last_of.Tie as tie
+use Rattle.text_runs.specs.Runs.{byteIs, lastByte}
+use Rattle.text_runs.proofs.byte.last_of.Statement.{statement}
+use Rattle.text_runs.proofs.byte.last_of.Tie as tie
 
 abbrev Inv-loop : tie.InvT-loop
 Inv-loop s byte k₀ k = (k ≤ length s) × (lastByte s byte ≡ last (byteIs s byte) k)

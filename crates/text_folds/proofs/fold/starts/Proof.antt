@@ -1,14 +1,14 @@
--- `texts::fold::starts` meets its contract. The loop's invariant: what is left of the needle decides, against what is left of the text.
+-- `text_folds::fold::starts` meets its contract. The loop's invariant: what is left of the needle decides, against what is left of the text.
 use native.Mathlib.Omega.{arith}
 use Prim.Native.Nat.{_-_, _≤_}
 use mathlib.Core.List.{map}
 use mathlib.Core.Path.{_∙_, _≡_, refl, sym}
 use lib.ListN.{drop, length}
 use Rattle.ids.specs.Bytes.{foldOf}
-use Rattle.texts.specs.Texts.{prefixOf}
-use Rattle.texts.proofs.Texts.{byte-agrees, byte-differs, needle-ends, text-ends}
-use Rattle.texts.proofs.fold.starts.Statement.{statement}
-use Rattle.texts.proofs.fold.starts.Tie as tie
+use Rattle.text_folds.specs.Folds.{prefixOf}
+use Rattle.text_folds.proofs.Folds.{byte-agrees, byte-differs, needle-ends, text-ends}
+use Rattle.text_folds.proofs.fold.starts.Statement.{statement}
+use Rattle.text_folds.proofs.fold.starts.Tie as tie
 
 abbrev Inv-loop : tie.InvT-loop
 Inv-loop fold s needle i₀ i =

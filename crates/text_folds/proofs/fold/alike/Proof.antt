@@ -1,9 +1,9 @@
--- `texts::fold::alike` meets its contract. Texts of one length are equal where one begins with the other.
+-- `text_folds::fold::alike` meets its contract. Texts of one length are equal where one begins with the other.
 use mathlib.Core.Path.{_∙_}
 use Rattle.ids.specs.Bytes.{foldOf}
-use Rattle.texts.proofs.Texts.{of-one-length, of-two-lengths}
-use Rattle.texts.proofs.fold.alike.Statement.{statement}
-use Rattle.texts.proofs.fold.alike.Tie as tie
+use Rattle.text_folds.proofs.Folds.{of-one-length, of-two-lengths}
+use Rattle.text_folds.proofs.fold.alike.Statement.{statement}
+use Rattle.text_folds.proofs.fold.alike.Tie as tie
 
 returns : tie.Need-returns
 returns c = let a = c .before .before .before .args in of-two-lengths (foldOf (a .fold)) (a .a .now) (a .b .now) (c .if1 .taken)

@@ -1,4 +1,4 @@
--- `texts::text::first_of` meets its contract. The loop's invariant: no byte so far is the one.
+-- `text_runs::byte::first_of` meets its contract. The loop's invariant: no byte so far is the one.
 use borrow.Author.Count.{below-more, below-none}
 use borrow.Author.Tests.{eq-eqb, ne-eqb}
 use native.Mathlib.Omega.{arith}
@@ -7,9 +7,9 @@ use mathlib.Core.Bool.{false}
 use mathlib.Core.Path.{_≡_}
 use lib.ListN.{length}
 use Rattle.ids.proofs.Search.{first-hit, first-miss}
-use Rattle.texts.specs.Texts.{byteIs, firstByte}
-use Rattle.texts.proofs.text.first_of.Statement.{statement}
-use Rattle.texts.proofs.text.first_of.Tie as tie
+use Rattle.text_runs.specs.Runs.{byteIs, firstByte}
+use Rattle.text_runs.proofs.byte.first_of.Statement.{statement}
+use Rattle.text_runs.proofs.byte.first_of.Tie as tie
 
 abbrev Inv-loop : tie.InvT-loop
 Inv-loop s byte k₀ k = (k ≤ length s) × ((j : ℕ) → j < k → byteIs s byte j ≡ false)

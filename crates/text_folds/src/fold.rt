@@ -5,7 +5,7 @@ ghost use mathlib.Core.Path.{_≡_};
 ghost use mathlib.Core.List.{map};
 ghost use Rattle.ids.specs.Bytes.{foldOf};
 ghost use Rattle.ids.specs.Cmp.{equal};
-ghost use Rattle.texts.specs.Texts.{prefixOf, firstPlace};
+ghost use Rattle.text_folds.specs.Folds.{prefixOf, firstPlace};
 
 // s begins with the needle.
 pub fn starts(fold: bool, s: &[u8], needle: &[u8]) -> bool
