@@ -1,8 +1,8 @@
 use borrow.Author.Needs.{needs}
 use native.Mathlib.Omega.{arith}
-use Rattle.roots.proofs.square_root.Near.{root-small}
-use Rattle.roots.proofs.square_root.searched.Statement.{statement}
-use Rattle.roots.proofs.square_root.searched.Tie as tie
+use Rattle.whole_roots.proofs.Span.{root-small}
+use Rattle.whole_roots.proofs.search.searched.Statement.{statement}
+use Rattle.whole_roots.proofs.search.searched.Tie as tie
 
 whole-root-requires : tie.Need-whole-root-requires
 whole-root-requires c κs = c .pre .1

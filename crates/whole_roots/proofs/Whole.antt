@@ -7,7 +7,7 @@ use mathlib.Core.Bool.{Bool, true, false, not, cond}
 use lib.Dec.{T, leb, leb→le, nleb→lt, lit≤}
 use lib.Ieee.{size}
 use lib.Ieee.Digits.{size-lt}
-use Rattle.roots.specs.Root.{rootIn, wholeRoot}
+use Rattle.whole_roots.specs.Whole.{rootIn, wholeRoot}
 
 abbrev pub IsRoot : ℕ → ℕ → Type 0
 IsRoot n w = (w * w ≤ n) × (n < (w + 1) * (w + 1))

@@ -2,10 +2,10 @@ use mathlib.Core.Path.{_≡_, sym, _∙_}
 use Prim.Native.Nat.{ℕ, _+_, _-_, _*_, _^_, _≤_, _<_}
 use native.Mathlib.Omega.{arith}
 use borrow.Author.Tests.{leb-true, leb-false}
-use Rattle.roots.specs.Root.{Around}
-use Rattle.roots.proofs.square_root.Whole.{square-lt-back, whole-root-unique}
-use Rattle.roots.proofs.square_root.whole_root.Statement.{statement}
-use Rattle.roots.proofs.square_root.whole_root.Tie as tie
+use Rattle.whole_roots.specs.Whole.{Around}
+use Rattle.whole_roots.proofs.Whole.{square-lt-back, whole-root-unique}
+use Rattle.whole_roots.proofs.search.whole_root.Statement.{statement}
+use Rattle.whole_roots.proofs.search.whole_root.Tie as tie
 
 abbrev Inv-loop : tie.InvT-loop
 Inv-loop from to m lo₀ hi₀ lo hi = Around (m * 2 ^ 54) lo hi

@@ -1,9 +1,9 @@
 use borrow.Author.Needs.{needs}
 use Prim.Native.Nat.{ℕ, _+_, _-_, _*_, _/_, _%_, _≤_, _<_}
 use native.Mathlib.Omega.{arith}
-use Rattle.roots.proofs.square_root.Near.{itself, scaled-small, lead-product, lead-small, square-small, rest-product, follow-small, cross-small, follow-square}
-use Rattle.roots.proofs.square_root.quick.Statement.{statement}
-use Rattle.roots.proofs.square_root.quick.Tie as tie
+use Rattle.quick_roots.proofs.Near.{itself, scaled-small, lead-product, lead-small, square-small, rest-product, follow-small, cross-small, follow-square}
+use Rattle.quick_roots.proofs.digits.quick.Statement.{statement}
+use Rattle.quick_roots.proofs.digits.quick.Tie as tie
 
 module _ (c : tie.Start) where
   abbrev w : ℕ

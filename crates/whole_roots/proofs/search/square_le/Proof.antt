@@ -1,7 +1,7 @@
 use native.Mathlib.Omega.{arith}
-use Rattle.roots.proofs.square_root.Square.{low, mid, top, less, more, same, over, over'}
-use Rattle.roots.proofs.square_root.square_le.Statement.{statement}
-use Rattle.roots.proofs.square_root.square_le.Tie as tie
+use Rattle.whole_roots.proofs.Square.{low, mid, top, less, more, same, over, over'}
+use Rattle.whole_roots.proofs.search.square_le.Statement.{statement}
+use Rattle.whole_roots.proofs.search.square_le.Tie as tie
 
 mul-bb : tie.Need-mul-bb
 mul-bb c = omega (arith, low (c .args .g))

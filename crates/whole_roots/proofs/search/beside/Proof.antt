@@ -2,9 +2,9 @@ use borrow.Author.Needs.{needs}
 use mathlib.Core.Path.{sym, _∙_}
 use native.Mathlib.Omega.{arith}
 use borrow.Author.Tests.{leb-true, leb-false, not-true}
-use Rattle.roots.proofs.square_root.Near.{whole-span}
-use Rattle.roots.proofs.square_root.beside.Statement.{statement}
-use Rattle.roots.proofs.square_root.beside.Tie as tie
+use Rattle.whole_roots.proofs.Span.{whole-span}
+use Rattle.whole_roots.proofs.search.beside.Statement.{statement}
+use Rattle.whole_roots.proofs.search.beside.Tie as tie
 
 mul-square-le : tie.Need-mul-square-le
 mul-square-le c = search needs

@@ -1,8 +1,8 @@
 use borrow.Author.Needs.{needs}
 use native.Mathlib.Omega.{arith}
-use Rattle.roots.proofs.square_root.Value.{built-small, no-nan, is-built}
-use Rattle.roots.proofs.square_root.built.Statement.{statement}
-use Rattle.roots.proofs.square_root.built.Tie as tie
+use Rattle.quick_roots.proofs.Bits.{built-small, no-nan, is-built}
+use Rattle.quick_roots.proofs.digits.built.Statement.{statement}
+use Rattle.quick_roots.proofs.digits.built.Tie as tie
 
 add-result : tie.Need-add-result
 add-result c = search needs

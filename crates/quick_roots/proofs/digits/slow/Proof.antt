@@ -1,9 +1,9 @@
 use borrow.Author.Needs.{needs}
 use Prim.Native.Nat.{_%_}
 use native.Mathlib.Omega.{arith}
-use Rattle.roots.proofs.square_root.Near.{scaled-small}
-use Rattle.roots.proofs.square_root.slow.Statement.{statement}
-use Rattle.roots.proofs.square_root.slow.Tie as tie
+use Rattle.quick_roots.proofs.Near.{scaled-small}
+use Rattle.quick_roots.proofs.digits.slow.Statement.{statement}
+use Rattle.quick_roots.proofs.digits.slow.Tie as tie
 
 add-beside : tie.Need-add-beside
 add-beside c = search needs

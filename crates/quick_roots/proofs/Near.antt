@@ -3,8 +3,8 @@ use mathlib.Core.Path.{_≡_}
 use Prim.Native.Nat.{ℕ, zero, suc, _+_, _-_, _*_, _/_, _^_, _≤_, _<_}
 use native.Mathlib.Nat.{mul-le-mul}
 use native.Mathlib.Omega.{arith}
-use Rattle.roots.specs.Root.{wholeRoot, Around}
-use Rattle.roots.proofs.square_root.Whole.{whole-root-ge, whole-root-lt}
+use Rattle.whole_roots.specs.Whole.{wholeRoot}
+use Rattle.whole_roots.proofs.Whole.{whole-root-ge, whole-root-lt}
 
 -- between the squares of 2q - 1 and 2q + 1 the root of v is 2q - 1 or 2q, and q is the half of one more
 around : (v p : ℕ) → (2 * p + 1) * (2 * p + 1) ≤ v → v < (2 * p + 3) * (2 * p + 3) → p + 1 ≡ (wholeRoot v + 1) / 2
@@ -17,12 +17,6 @@ nearest w (suc p) a b = omega (arith, around (w * 2 ^ 54) p (omega arith) (omega
 -- g has the leading digits of the root and f those that follow: twice the root of what g leaves
 pub itself : (w g f : ℕ) → g * g ≤ w * 256 → g * f + f * f / 8388608 < (w * 256 - g * g) * 2097152 + g / 2 → (w * 256 - g * g) * 2097152 + g / 2 - (g * f + f * f / 8388608) < g → g * 4194304 + f ≡ (wholeRoot (w * 2 ^ 54) + 1) / 2
 itself w g f a b c = nearest w (g * 4194304 + f) (omega arith) (omega arith)
-
-pub root-small : (m : ℕ) → m < 18014398509481984 → wholeRoot (m * 2 ^ 54) < 18014398509481984
-root-small m h = whole-root-lt (m * 2 ^ 54) 18014398509481984 (omega arith)
-
-pub whole-span : (m : ℕ) → m < 18014398509481984 → Around (m * 2 ^ 54) 0 18014398509481984
-whole-span m h = (omega arith, omega arith, omega arith)
 
 -- m, or twice m
 pub scaled-small : (m b : ℕ) → m < 9007199254740992 → b < 2 → m * (1 + b) < 18014398509481984
