@@ -7,7 +7,7 @@ use Rattle.ids.specs.First.{orElse}
 use Rattle.ids.specs.declared.lookup.Found.{Found}
 use Rattle.ids.specs.declared.lookup.Found.the-variants.{Nothing}
 use Rattle.key_parts.specs.Keys.{rawOf, withoutLoc}
-use Rattle.texts.specs.Texts.{prefixOf}
+use Rattle.text_folds.specs.Folds.{prefixOf}
 use Rattle.refs.specs.Refs.{journeyIdOf, isUuid}
 use Rattle.key_parts.specs.Words.{loc, localMark}
 use Rattle.tables.specs.declared.lent.Aliases.{Aliases}

@@ -5,7 +5,7 @@ use mathlib.Core.List.{List, [], _∷_, _++_}
 use Rattle.ids.specs.First.{orElse}
 use Rattle.ids.specs.Pool.{idOf}
 use Rattle.ids.specs.Rows.{rowOf, GoodIds}
-use Rattle.texts.specs.Texts.{prefixOf}
+use Rattle.text_folds.specs.Folds.{prefixOf}
 use Rattle.ids.specs.declared.lookup.Found.{Found}
 use Rattle.ids.specs.declared.lookup.Found.the-variants.{At, Nothing}
 use Rattle.key_parts.specs.Keys.{rawOf, withoutLoc}

@@ -15,7 +15,7 @@ use Rattle.ids.proofs.ByteOrder.{clash}
 use Rattle.measure.specs.Answer.{given}
 use Rattle.measure.specs.Globe.{onGlobe, within}
 use Rattle.columns.specs.Number.{reachesAt, endsPastAt, beyond, outsideAt}
-use Rattle.columns.specs.Real.{offGlobeAt}
+use Rattle.column_floats.specs.Real.{offGlobeAt}
 use Rattle.columns.specs.Rows.{some, counts, among, bitOf}
 use Rattle.column_ids.specs.Text.{badByteAt, badText, badId, badIdAt}
 use Rattle.column_order.specs.Order.{partsOf, cmpParts, cmpRows, outOfOrderAt}

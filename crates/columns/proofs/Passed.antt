@@ -4,16 +4,13 @@ use mathlib.Core.Path.{_≡_, refl, sym, subst}
 use mathlib.Core.Logic.{⊎-elim}
 use mathlib.Core.Bool.{Bool, true, false, _||_, not}
 use mathlib.Core.List.{List}
-use borrow.Author.Tests.{ltb-false, leb-false, ne-eqb, not-false}
+use borrow.Author.Tests.{ltb-false, leb-false, ne-eqb}
 use lib.Dec.{T}
-use lib.Ieee.{Float, nan}
 use lib.IntN.{ℤ, pos}
 use lib.ListN.{length, getD}
 use lib.Signed.{ltZ, _≤ℤ_, ltZ-no}
 use Rattle.ids.proofs.ByteOrder.{clash, split}
-use Rattle.measure.specs.Globe.{onGlobe}
 use Rattle.columns.specs.Number.{reachesAt, endsPastAt, beyond, outsideAt}
-use Rattle.columns.specs.Real.{offGlobeAt, isFinite, notFiniteAt}
 use Rattle.columns.specs.Rows.{some, counts, among}
 use Rattle.columns.proofs.Scan.{hit}
 
@@ -58,13 +55,3 @@ module _ (all : Bool) (flags : List ℕ) where
       (k : ℕ) → k < length s → counts all flags k ≡ true → (lo ≤ℤ getD s k (pos 0)) × (getD s k (pos 0) ≤ℤ hi)
   unfolding outsideAt beyond
   in-range s lo hi e k l c = let h = neither _ _ (no-fault (outsideAt s lo hi) _ e k l c) in (at-most _ _ (h .0), at-most _ _ (h .1))
-
-  pub on-globe : (lat lon : List Float) → some (among all flags (offGlobeAt lat lon)) (min (length lat) (length lon)) ≡ false →
-      (k : ℕ) → k < min (length lat) (length lon) → counts all flags k ≡ true → onGlobe (getD lat k nan) (getD lon k nan) ≡ true
-  unfolding offGlobeAt
-  on-globe lat lon e k l c = not-false _ (no-fault (offGlobeAt lat lon) _ e k l c)
-
-  pub is-finite : (s : List Float) → some (among all flags (notFiniteAt s)) (length s) ≡ false →
-      (k : ℕ) → k < length s → counts all flags k ≡ true → isFinite (getD s k nan) ≡ true
-  unfolding notFiniteAt
-  is-finite s e k l c = not-false _ (no-fault (notFiniteAt s) _ e k l c)

@@ -7,11 +7,12 @@ use borrow.Author.Tests.{le-ltb, lt-ltb, ltb-false, ltb-true}
 use lib.Dec.{ltb}
 use lib.IntN.{subℕ}
 use lib.Signed.{ltZ}
-use Rattle.days.specs.Days.{leap, yearDays, daysBeforeMonth, yearOf, monthOf, dayInMonth, isDate, ordinal, dayOf}
-use Rattle.days.proofs.Months.{month-next, month-mono}
+use Rattle.days.specs.Days.{yearOf, monthOf, dayInMonth, isDate, ordinal, dayOf}
+use Rattle.gregorian.specs.Gregorian.{leap, yearDays, daysBeforeMonth}
+use Rattle.gregorian.proofs.Months.{month-next, month-mono}
 use Rattle.days.proofs.Ordinals.{place, Parts, parts}
-use Rattle.days.proofs.Signed.{not-below, not-both}
-use Rattle.days.proofs.Years.{year-next, year-mono, year-whole}
+use Rattle.day_counts.proofs.Signed.{not-below, not-both}
+use Rattle.gregorian.proofs.Years.{year-next, year-mono, year-whole}
 
 -- a day of a month is before the next month, and a day of a year before the next year
 month-end : (n : ℕ) → Parts n → (m : ℕ) → monthOf n < m → daysBeforeMonth (leap (yearOf n)) (monthOf n) + dayInMonth n ≤ daysBeforeMonth (leap (yearOf n)) m

@@ -7,10 +7,11 @@ use native.Mathlib.Omega.{arith}
 use borrow.Author.Tests.{ltb-true, ltb-false}
 use lib.Dec.{ltb}
 use lib.IntN.{ℤ, pos, negsuc, _+ℤ_, sucℤ-+ℤ, +ℤ-one}
-use Rattle.days.specs.Days.{leap, yearDays, monthDays, daysBeforeMonth, yearOf, monthOf, dayInMonth, isDate, ordinal, dayOf}
-use Rattle.days.proofs.Months.{days-bound, month-next}
+use Rattle.days.specs.Days.{yearOf, monthOf, dayInMonth, isDate, ordinal, dayOf}
+use Rattle.gregorian.specs.Gregorian.{leap, yearDays, monthDays, daysBeforeMonth}
+use Rattle.gregorian.proofs.Months.{days-bound, month-next}
 use Rattle.days.proofs.Ordinals.{place, Parts, parts}
-use Rattle.days.proofs.Years.{year-next, year-whole}
+use Rattle.gregorian.proofs.Years.{year-next, year-whole}
 
 -- the next day of the month, or the first of the next month, or the first of the next year
 abbrev pub dateAfter : ℕ → ℕ

@@ -8,11 +8,12 @@ use lib.Dec.{leb}
 use lib.IntN.{pos, _-ℤ_}
 use mir.Syntax.{w64}
 use mir.Val.{SFits}
-use Rattle.days.specs.Days.{leap, monthDays, daysBeforeMonth, daysBeforeYear, yearOf, monthOf, dayInMonth, within, isDate, ordinal}
-use Rattle.days.proofs.Bools.{and-left, and-right}
-use Rattle.days.proofs.Months.{months-bound}
-use Rattle.days.proofs.Signed.{sub-fits}
-use Rattle.days.proofs.Years.{years-bound}
+use Rattle.days.specs.Days.{yearOf, monthOf, dayInMonth, within, isDate, ordinal}
+use Rattle.gregorian.specs.Gregorian.{leap, monthDays, daysBeforeMonth, daysBeforeYear}
+use Rattle.gregorian.proofs.Bools.{and-left, and-right}
+use Rattle.gregorian.proofs.Months.{months-bound}
+use Rattle.day_counts.proofs.Signed.{sub-fits}
+use Rattle.gregorian.proofs.Years.{years-bound}
 
 -- the ordinal of day d of month m of year y
 abbrev pub place : ℕ → ℕ → ℕ → ℕ

@@ -1,5 +1,3 @@
--- What the contracts say: the calendar, what reading a date answers, and service days.
-pub mod Floor
+-- What the contracts say: dates and their days, and what reading a date answers.
 pub mod Days
 pub mod Read
-pub mod Service

@@ -1,12 +1,12 @@
 // Eight digits, yyyymmdd, as a day number: day 0 is 19700101, and days before it are negative.
 // There is no way back from a day to its date.
 ghost use mathlib.Core.Path.{_≡_};
-ghost use Rattle.days.specs.Days.{isDate, ordinal, dayOf, weekdayOf};
+ghost use Rattle.days.specs.Days.{isDate, ordinal, dayOf};
 ghost use Rattle.days.specs.Read.{readDateOf};
-use crate::calendar::days_before_month;
-use crate::calendar::days_before_year;
-use crate::calendar::is_leap;
-use crate::calendar::month_days;
+use gregorian::days_before_month;
+use gregorian::days_before_year;
+use gregorian::is_leap;
+use gregorian::month_days;
 
 // What eight digits say.
 pub enum ReadDate {
@@ -67,12 +67,4 @@ pub fn day_of(n: u32) -> i64
     ensures { λ r. ⌜ r ≡ dayOf n ⌝ }
 {
     ordinal_of(n) as i64 - 719163
-}
-
-// The weekday of any day, Monday 0. A remainder has its dividend's sign, so 7 is added; and 3, since
-// day 0 is a Thursday.
-pub fn weekday(day: i64) -> u32
-    ensures { λ r. ⌜ r ≡ weekdayOf day ⌝ }
-{
-    ((day % 7 + 10) % 7) as u32
 }

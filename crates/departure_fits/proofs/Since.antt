@@ -9,9 +9,9 @@ use lib.Signed.{mag, leZ, nonNeg, natAbs-le}
 use mir.Syntax.{w32, w64}
 use mir.Val.{Fits, SFits, toZ}
 use mir.Facts.{toZ-ofZ, toZ-pos}
-use Rattle.days.specs.Service.{Near, apart}
-use Rattle.days.proofs.Apart.{apart-size, not-negative}
-use Rattle.days.proofs.Signed.{back, mag-sub, sub-fits}
+use Rattle.day_counts.specs.Service.{Near, apart}
+use Rattle.day_counts.proofs.Apart.{apart-size, not-negative}
+use Rattle.day_counts.proofs.Signed.{back, mag-sub, sub-fits}
 use Rattle.departure_fits.specs.Departures.{since}
 
 -- a number of 32 bits, read as a signed one of 64

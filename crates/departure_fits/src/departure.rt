@@ -1,5 +1,5 @@
 // How far a departure is from the count of seconds that it is compared with, and which of two is nearer. Seconds are signed.
-use days::delta;
+use day_counts::delta;
 ghost use mathlib.Core.Path.{_≡_};
 ghost use lib.IntN.{natAbs, _-ℤ_};
 ghost use Rattle.departure_fits.specs.Departures.{since, away, near, nearer, ifRuns};

@@ -1,7 +1,8 @@
 // A date's refusal, day and weekday.
 use days::ReadDate;
 ghost use mathlib.Core.Path.{_≡_};
-ghost use Rattle.days.specs.Days.{dayOf, weekdayOf};
+ghost use Rattle.days.specs.Days.{dayOf};
+ghost use Rattle.day_counts.specs.Weekdays.{weekdayOf};
 ghost use Rattle.days.specs.Read.{readDateOf, refusalOf};
 
 fn number(read: ReadDate) -> u32
@@ -34,5 +35,5 @@ pub extern "C" fn zebumorn_day_of(n: u32) -> i64
 pub extern "C" fn zebumorn_weekday_of(n: u32) -> u32
     ensures { λ r. ⌜ r ≡ weekdayOf (dayOf n) ⌝ }
 {
-    days::weekday(days::day_of(n))
+    day_counts::weekday(days::day_of(n))
 }

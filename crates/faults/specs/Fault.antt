@@ -10,7 +10,7 @@ use Rattle.days.specs.Days.{isDate}
 use Rattle.ids.specs.declared.pool.Span.{Span}
 use Rattle.columns.specs.Rows.{some, among}
 use Rattle.columns.specs.Number.{reachesAt, endsPastAt, outsideAt}
-use Rattle.columns.specs.Real.{offGlobeAt, notFiniteAt}
+use Rattle.column_floats.specs.Real.{offGlobeAt, notFiniteAt}
 use Rattle.column_ids.specs.Text.{badIdAt}
 use Rattle.column_order.specs.Order.{outOfOrderAt}
 use Rattle.tables.specs.Pools.{Pools, partOf, flagsOf, poolLength}

@@ -114,7 +114,7 @@ pub fn fails(
         }
         Test::OffGlobe(lat, lon, m) => {
             let flags = m.flags;
-            columns::off_globe(
+            column_floats::off_globe(
                 reals_of(reals, lat),
                 reals_of(reals, lon),
                 bytes_of(bytes, flags),
@@ -169,7 +169,7 @@ pub fn fails(
         }
         Test::NotFinite(s, m) => {
             let flags = m.flags;
-            columns::not_finite(dists_of(dists, s), bytes_of(bytes, flags), m.all)
+            column_floats::not_finite(dists_of(dists, s), bytes_of(bytes, flags), m.all)
         }
         Test::NoDate(s) => no_date(words_of(words, s)),
         Test::NotANumber(s) => not_a_number(reals_of(reals, s)),

@@ -3,7 +3,9 @@ use Prim.Native.Nat.{ℕ, _-_}
 use mathlib.Core.Bool.{_||_, cond}
 use mathlib.Core.List.{List, []}
 use lib.ListN.{length, take, drop}
-use Rattle.texts.specs.Texts.{prefixOf, suffixOf, lastByte, trimmedOf, trimmedText}
+use Rattle.texts.specs.Texts.{suffixOf, trimmedText}
+use Rattle.text_runs.specs.Runs.{lastByte, trimmedOf}
+use Rattle.text_folds.specs.Folds.{prefixOf}
 use Rattle.parts.specs.Parts.{upTo, afterLast, ifLong}
 use Rattle.key_parts.specs.Words.{loc, lowFeed, highFeed}
 

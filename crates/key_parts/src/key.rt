@@ -11,7 +11,7 @@ ghost use Rattle.key_parts.specs.Keys.{baseOf, rawOf, withoutLoc, withou
 pub fn base<'a>(key: &'a [u8]) -> &'a [u8]
     ensures { λ r. ⌜ now r ≡ baseOf (now (key .entry)) ⌝ }
 {
-    match texts::last_of(key, b'@') {
+    match text_runs::last_of(key, b'@') {
         Found::At(k) => first(key, k),
         Found::Nothing => key,
     }
@@ -44,7 +44,7 @@ pub fn without_loc<'a>(s: &'a [u8]) -> &'a [u8]
 pub fn without_colons<'a>(s: &'a [u8]) -> &'a [u8]
     ensures { λ r. ⌜ now r ≡ withoutColons (now (s .entry)) ⌝ }
 {
-    first(s, texts::trimmed(s, b':'))
+    first(s, text_runs::trimmed(s, b':'))
 }
 
 // Less every ":LOC" at the end.

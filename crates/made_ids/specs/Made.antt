@@ -2,7 +2,7 @@
 use Prim.Native.Nat.{ℕ}
 use mathlib.Core.Bool.{cond}
 use mathlib.Core.List.{List, _∷_, _++_}
-use Rattle.texts.specs.Texts.{firstByte}
+use Rattle.text_runs.specs.Runs.{firstByte}
 use Rattle.ids.specs.declared.lookup.Found.{Found}
 use Rattle.ids.specs.declared.lookup.Found.the-variants.{Nothing}
 use Rattle.parts.specs.Parts.{upTo}

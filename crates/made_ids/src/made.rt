@@ -11,7 +11,7 @@ ghost use Rattle.made_ids.specs.Made.{feedOf, builtOf};
 fn feed<'a>(base: &'a [u8]) -> &'a [u8]
     ensures { λ r. ⌜ now r ≡ feedOf (now (base .entry)) ⌝ }
 {
-    match texts::first_of(base, b':') {
+    match text_runs::first_of(base, b':') {
         Found::At(k) => ids::part(base, 0, k),
         Found::Nothing => base,
     }

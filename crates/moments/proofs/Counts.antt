@@ -8,8 +8,8 @@ use lib.Signed.{mag, nonNeg}
 use mir.Syntax.{w32, w64}
 use mir.Val.{Fits, SFits}
 use mir.Facts.{toZ-ofZ}
-use Rattle.days.specs.Service.{serviceDayOf}
-use Rattle.days.proofs.Signed.{back}
+use Rattle.day_counts.specs.Service.{serviceDayOf}
+use Rattle.day_counts.proofs.Signed.{back}
 use Rattle.moments.specs.Moments.{InReach, todayOf}
 
 -- the day, the day's ordinal and the second, of a moment in reach

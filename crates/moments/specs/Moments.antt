@@ -1,7 +1,7 @@
 -- A moment of local time as the two counts that departures are compared with.
 use Prim.Native.Nat.{ℕ, _+_, _-_, _<_}
 use lib.IntN.{ℤ, pos, negsuc, _+ℤ_, natAbs}
-use Rattle.days.specs.Service.{serviceDayOf}
+use Rattle.day_counts.specs.Service.{serviceDayOf}
 use Rattle.departure_fits.specs.declared.departure.Count.{Count}
 
 -- from a day before 19700101 on, for some thirty thousand years

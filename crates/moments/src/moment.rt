@@ -1,5 +1,5 @@
 // A moment of local time as the two counts that departures are compared with.
-use days::ServiceDay;
+use day_counts::ServiceDay;
 use departure_fits::Count;
 ghost use mathlib.Core.Path.{_≡_};
 ghost use Rattle.moments.specs.Moments.{todayOf, yesterdayOf, InReach};

@@ -3,7 +3,7 @@ ghost use Prim.Native.Nat.{_-_, min};
 ghost use mathlib.Core.Path.{_≡_};
 ghost use lib.ListN.{length};
 ghost use Rattle.columns.specs.Number.{endsPastAt, reachesAt};
-ghost use Rattle.columns.specs.Real.{notFiniteAt, offGlobeAt};
+ghost use Rattle.column_floats.specs.Real.{notFiniteAt, offGlobeAt};
 ghost use Rattle.columns.specs.Rows.{among, some};
 ghost use Rattle.column_ids.specs.Text.{badIdAt};
 ghost use Rattle.column_order.specs.Order.{outOfOrderAt};
@@ -36,14 +36,14 @@ pub extern "C" fn zebumorn_ends_past(
 pub extern "C" fn zebumorn_off_globe(lat: &[f64], lon: &[f64], flags: &[u8], all: bool) -> bool
     ensures { λ r. ⌜ r ≡ some (among all (now (flags .entry)) (offGlobeAt (now (lat .entry)) (now (lon .entry)))) (min (length (now (lat .entry))) (length (now (lon .entry)))) ⌝ }
 {
-    columns::off_globe(lat, lon, flags, all)
+    column_floats::off_globe(lat, lon, flags, all)
 }
 
 #[no_mangle]
 pub extern "C" fn zebumorn_not_finite(s: &[f32], flags: &[u8], all: bool) -> bool
     ensures { λ r. ⌜ r ≡ some (among all (now (flags .entry)) (notFiniteAt (now (s .entry)))) (length (now (s .entry))) ⌝ }
 {
-    columns::not_finite(s, flags, all)
+    column_floats::not_finite(s, flags, all)
 }
 
 #[no_mangle]

@@ -6,7 +6,7 @@ use lib.Dec.{leb}
 use lib.ListN.{length, take, drop}
 use Rattle.ids.specs.declared.lookup.Found.{Found}
 use Rattle.ids.specs.declared.lookup.Found.the-variants.{At, Nothing}
-use Rattle.texts.specs.Texts.{lastByte}
+use Rattle.text_runs.specs.Runs.{lastByte}
 
 -- the text before the place, or the other text
 abbrev pub upTo : Found → List ℕ → List ℕ → List ℕ

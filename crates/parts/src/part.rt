@@ -46,7 +46,7 @@ pub fn past_place<'a>(s: &'a [u8], place: Found, n: usize) -> &'a [u8]
 pub fn after_last<'a>(s: &'a [u8], byte: u8) -> &'a [u8]
     ensures { λ r. ⌜ now r ≡ afterLast byte (now (s .entry)) ⌝ }
 {
-    match texts::last_of(s, byte) {
+    match text_runs::last_of(s, byte) {
         Found::At(k) => from(from(s, k), 1),
         Found::Nothing => s,
     }

@@ -23,7 +23,7 @@ pub fn date(n: u32) {
             write::text(b"(day ");
             write::signed(day);
             write::text(b" ");
-            write::count(days::weekday(day) as u64);
+            write::count(day_counts::weekday(day) as u64);
             write::text(b")\n");
         }
         ReadDate::NotADate => cases::print_refusal(10),

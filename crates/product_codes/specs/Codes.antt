@@ -6,7 +6,8 @@ use lib.Dec.{leb, eqb}
 use lib.ListN.{length, getD, take, drop}
 use Rattle.ids.specs.Bytes.{isAlnum, upperOf}
 use Rattle.ids.specs.First.{first}
-use Rattle.texts.specs.Texts.{firstPlaceIgnoringCase, alnumRun, digitRun}
+use Rattle.texts.specs.Texts.{firstPlaceIgnoringCase}
+use Rattle.text_runs.specs.Runs.{alnumRun, digitRun}
 use Rattle.parts.specs.Parts.{past, ifLong, orText}
 
 -- LINE::

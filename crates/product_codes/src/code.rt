@@ -13,7 +13,7 @@ ghost use Rattle.product_codes.specs.Codes.{word, lineWord, isCode, begi
 fn word_of<'a>(s: &'a [u8]) -> &'a [u8]
     ensures { λ r. ⌜ now r ≡ word (now (s .entry)) ⌝ }
 {
-    first(s, texts::alnum_run(s))
+    first(s, text_runs::alnum_run(s))
 }
 
 // Those after the first "LINE::", in any case; four at least.
@@ -35,7 +35,7 @@ fn is_code(w: &[u8]) -> bool
         return false;
     }
     let rest = from(w, 1);
-    texts::digit_run(rest) == rest.len()
+    text_runs::digit_run(rest) == rest.len()
 }
 
 // No letter or digit stands before k.

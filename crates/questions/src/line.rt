@@ -11,7 +11,7 @@ pub fn line_end(text: &[u8], at: usize) -> usize
     ensures { λ r. ⌜ r ≡ lineEnd (now (text .entry)) at ⌝ }
     ensures { λ r. ⌜ (at ≤ r) × (r ≤ length (now (text .entry))) ⌝ }
 {
-    match texts::first_of(&text[at..], b'\n') {
+    match text_runs::first_of(&text[at..], b'\n') {
         Found::At(k) => at + k,
         Found::Nothing => text.len(),
     }

@@ -3,7 +3,7 @@ use Prim.Native.Nat.{ℕ, zero, suc}
 use mathlib.Core.Bool.{cond}
 use mathlib.Core.List.{List, [], _∷_}
 use lib.Dec.{leb}
-use Rattle.columns.specs.Real.{isFinite}
+use Rattle.column_floats.specs.Real.{isFinite}
 use Rattle.records.specs.declared.StopTime.{StopTime}
 use Rattle.record_faults.specs.declared.Faults.{Faults}
 

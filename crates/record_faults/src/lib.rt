@@ -1,7 +1,7 @@
 // What backfill may turn a trip's records down for, found where they lie: a stop that is not in the table, a distance that is not finite.
 // The loop over the slice of structs is a walk by hand; what one record adds is a function of its own.
 ghost use mathlib.Core.Path.{_≡_};
-ghost use Rattle.columns.specs.Real.{isFinite};
+ghost use Rattle.column_floats.specs.Real.{isFinite};
 ghost use Rattle.record_faults.specs.Faults.{fold, outsideOf, infiniteOf, stepOf};
 use records::StopTime;
 

@@ -6,7 +6,9 @@ use lib.Dec.{eqb}
 use lib.ListN.{length, getD, take, drop}
 use Rattle.ids.specs.declared.byte.Kind.the-variants.{Byte}
 use Rattle.ids.specs.Bytes.{isOf}
-use Rattle.texts.specs.Texts.{equalIgnoringCase, firstByte, lastByte, firstPlace, runOf, trimmedOf}
+use Rattle.texts.specs.Texts.{equalIgnoringCase}
+use Rattle.text_runs.specs.Runs.{firstByte, lastByte, runOf, trimmedOf}
+use Rattle.text_folds.specs.Folds.{firstPlace}
 use Rattle.parts.specs.Parts.{upTo, past, afterLast, orText}
 use Rattle.key_parts.specs.Keys.{withoutColons, withoutLocs}
 use Rattle.refs.specs.Words.{colons, locWord, serviceJourney, vehicleJourney}

@@ -22,7 +22,7 @@ fn without_loc_part<'a>(s: &'a [u8]) -> &'a [u8]
     ensures { λ r. ⌜ now r ≡ withoutLocPart (now (s .entry)) ⌝ }
 {
     if texts::equal_ignoring_case(after_last(s, b':'), b"LOC") {
-        return before(s, texts::last_of(s, b':'));
+        return before(s, text_runs::last_of(s, b':'));
     }
     s
 }
@@ -40,7 +40,7 @@ fn is_kind(s: &[u8]) -> bool
 fn after_kind<'a>(s: &'a [u8]) -> &'a [u8]
     ensures { λ r. ⌜ now r ≡ afterKind (now (s .entry)) ⌝ }
 {
-    let colon = texts::first_of(s, b':');
+    let colon = text_runs::first_of(s, b':');
     if is_kind(before(s, colon)) {
         return without_loc_part(past_place(s, colon, 1));
     }
@@ -51,7 +51,7 @@ fn after_kind<'a>(s: &'a [u8]) -> &'a [u8]
 fn after_parts<'a>(s: &'a [u8]) -> &'a [u8]
     ensures { λ r. ⌜ now r ≡ afterParts (now (s .entry)) ⌝ }
 {
-    after_kind(past_place(s, texts::first_of(s, b':'), 1))
+    after_kind(past_place(s, text_runs::first_of(s, b':'), 1))
 }
 
 // The journey id of a ref.
@@ -69,8 +69,8 @@ pub fn journey_id<'a>(s: &'a [u8]) -> &'a [u8]
 fn bare_text<'a>(s: &'a [u8]) -> &'a [u8]
     ensures { λ r. ⌜ now r ≡ bare (now (s .entry)) ⌝ }
 {
-    let t = from(s, texts::run(s, Kind::Byte(b' ')));
-    first(t, texts::trimmed(t, b' '))
+    let t = from(s, text_runs::run(s, Kind::Byte(b' ')));
+    first(t, text_runs::trimmed(t, b' '))
 }
 
 // 36 bytes with four dashes at the places of a UUID.

@@ -18,9 +18,10 @@ use Rattle.ids.specs.declared.pool.IdColumn.{IdColumn}
 use Rattle.ids.specs.declared.pool.Span.{Span}
 use Rattle.ids.proofs.ByteOrder.{clash}
 use Rattle.measure.specs.Globe.{onGlobe}
-use Rattle.columns.specs.Real.{isFinite}
+use Rattle.column_floats.specs.Real.{isFinite}
 use Rattle.columns.specs.Rows.{counts}
-use Rattle.columns.proofs.Passed.{fails, below-bound, ends-within, in-range, on-globe, is-finite}
+use Rattle.columns.proofs.Passed.{fails, below-bound, ends-within, in-range}
+use Rattle.column_floats.proofs.Finite.{on-globe, is-finite}
 use Rattle.column_ids.proofs.Passed.{id-printable, id-not-empty}
 use Rattle.column_order.specs.Order.{cmpRows}
 use Rattle.column_order.specs.declared.order.Key.{Key}

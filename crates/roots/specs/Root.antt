@@ -1,18 +1,8 @@
 -- The square root as IEEE 754 has it: the value nearest to the exact root, a tie to the even one. Definitions only.
-use Prim.Native.Nat.{ℕ, zero, suc, _+_, _-_, _*_, _/_, _%_, _^_, _≤_, _<_, compare}
+use Prim.Native.Nat.{ℕ, zero, suc, _+_, _-_, _*_, _/_, _^_, compare}
 use mathlib.Core.Bool.{cond, false}
-use lib.Dec.{leb}
 use lib.Ieee.{Float, nan, inf, fin, Format, binary64, prec, low, up, down, size, nearest, units}
-
--- the largest w with w * w ≤ n, for an n below 4 ^ k: twice that of n / 4, or one more
-unfoldable pub rootIn : ℕ → ℕ → ℕ
-rootIn zero n = 0
-rootIn (suc k) n = let w = 2 * rootIn k (n / 4) in cond (leb ((w + 1) * (w + 1)) n) (w + 1) w
-
--- the largest w with w * w ≤ n
-unfoldable pub wholeRoot : ℕ → ℕ
-unfolding rootIn
-wholeRoot n = rootIn (size n) n
+use Rattle.whole_roots.specs.Whole.{wholeRoot}
 
 -- The value of f nearest to the root of num / den. In units of f's smallest value that is the root of n / den.
 -- As in `round`, the format keeps the `prec` leading digits of its whole part and drops k: q is the whole part of the root in
@@ -32,12 +22,3 @@ rootOf nan = nan
 rootOf (inf s) = cond s nan (inf s)
 rootOf (fin s zero e) = fin s zero e
 rootOf (fin s (suc m) e) = cond s nan (roundRoot binary64 (suc m * up e) (down e))
-
--- the root of v is lo or more, and less than hi
-abbrev pub Around : ℕ → ℕ → ℕ → Type 0
-Around v lo hi = (lo * lo ≤ v) × (v < hi * hi) × (hi ≤ 18014398509481985)
-
--- what the code builds for m * 2 ^ e / 2 ^ 1126 with an m of 53 digits
-unfoldable pub builtOf : ℕ → ℕ → Float
-unfolding wholeRoot units
-builtOf m e = units binary64 false ((wholeRoot (m * (1 + e % 2) * 2 ^ 54) + 1) / 2) (e / 2 + 485)

@@ -2,9 +2,10 @@
 use Prim.Native.Nat.{ℕ, _/_, _%_, _^_, _<_}
 use mathlib.Core.Path.{_≡_}
 use native.Mathlib.Omega.{arith}
-use Rattle.days.specs.Days.{leap, ordinal}
-use Rattle.days.proofs.Months.{months-bound}
-use Rattle.days.proofs.Years.{years-bound}
+use Rattle.days.specs.Days.{ordinal}
+use Rattle.gregorian.specs.Gregorian.{leap}
+use Rattle.gregorian.proofs.Months.{months-bound}
+use Rattle.gregorian.proofs.Years.{years-bound}
 use Rattle.tables.specs.Pools.{Pools}
 use Rattle.tables.specs.Bounds.{chartBounds}
 use Rattle.refusals.specs.Refuse.{refusalOf}

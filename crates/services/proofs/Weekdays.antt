@@ -6,8 +6,9 @@ use mathlib.Core.Bool.{Bool, true, false}
 use borrow.Author.Tests.{ltb-true, ltb-false}
 use lib.Dec.{ltb}
 use lib.IntN.{pos, negsuc, _+ℤ_, _-ℤ_}
-use Rattle.days.specs.Days.{ordinal, dayOf, weekdayOf}
-use Rattle.days.specs.Floor.{floorMod}
+use Rattle.days.specs.Days.{ordinal, dayOf}
+use Rattle.day_counts.specs.Weekdays.{weekdayOf}
+use Rattle.day_counts.specs.Floor.{floorMod}
 use Rattle.services.specs.Runs.{weekdayAt}
 
 -- the day that is m days and one more before day 0

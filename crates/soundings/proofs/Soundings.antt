@@ -4,8 +4,12 @@ use lib.Ieee.{ofInt, sub, div, lt, le}
 use Rattle.ids.specs.Bytes.{upperOf}
 use Rattle.ids.specs.Cmp.{equal}
 use Rattle.ids.specs.First.{first, last}
-use Rattle.texts.specs.Texts.{firstByte, firstPlace, lastByte, keptOf, prefixOf, runOf, suffixOf, trimmedTimes}
-use Rattle.days.specs.Days.{leap, yearDays, monthDays, daysBeforeMonth, daysBeforeYear, isDate, ordinal, dayOf, weekdayOf}
+use Rattle.texts.specs.Texts.{suffixOf, trimmedTimes}
+use Rattle.text_runs.specs.Runs.{firstByte, lastByte, keptOf, runOf}
+use Rattle.text_folds.specs.Folds.{firstPlace, prefixOf}
+use Rattle.days.specs.Days.{isDate, ordinal, dayOf}
+use Rattle.day_counts.specs.Weekdays.{weekdayOf}
+use Rattle.gregorian.specs.Gregorian.{leap, yearDays, monthDays, daysBeforeMonth, daysBeforeYear}
 use Rattle.days.specs.Read.{readDateOf}
 use Rattle.columns.specs.Rows.{some}
 use Rattle.ieee.specs.Number.{absOf}

@@ -8,7 +8,7 @@ use lib.IntN.{ℤ, pos, negsuc}
 use lib.ListN.{length, getD}
 use Rattle.ids.specs.declared.lookup.Found.{Found}
 use Rattle.ids.specs.declared.lookup.Found.the-variants.{At, Nothing}
-use Rattle.days.specs.Days.{weekdayOf}
+use Rattle.day_counts.specs.Weekdays.{weekdayOf}
 use Rattle.days.specs.Read.{readDateOf, refusalOf}
 use Rattle.days.specs.declared.date.ReadDate.{ReadDate}
 use Rattle.days.specs.declared.date.ReadDate.the-variants.{Day, NotADate}

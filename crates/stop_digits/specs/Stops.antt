@@ -2,7 +2,8 @@
 use Prim.Native.Nat.{ℕ}
 use mathlib.Core.List.{List, [], _∷_}
 use lib.ListN.{take, drop}
-use Rattle.texts.specs.Texts.{firstPlace, digitRun, digitsAt}
+use Rattle.text_runs.specs.Runs.{digitRun, digitsAt}
+use Rattle.text_folds.specs.Folds.{firstPlace}
 use Rattle.parts.specs.Parts.{past, ifLong, orText}
 
 -- :Q:

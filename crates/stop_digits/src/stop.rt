@@ -10,7 +10,7 @@ ghost use Rattle.stop_digits.specs.Stops.{digitsFirst, digitsLast, marke
 fn digits_first<'a>(s: &'a [u8]) -> &'a [u8]
     ensures { λ r. ⌜ now r ≡ digitsFirst (now (s .entry)) ⌝ }
 {
-    first(s, texts::digit_run(s))
+    first(s, text_runs::digit_run(s))
 }
 
 // Those after the first ":Q:"; four at least.
@@ -27,7 +27,7 @@ fn marked_digits<'a>(s: &'a [u8]) -> &'a [u8]
 fn digits_last<'a>(s: &'a [u8]) -> &'a [u8]
     ensures { λ r. ⌜ now r ≡ digitsLast (now (s .entry)) ⌝ }
 {
-    if_long(from(s, texts::digits_at(s)), 4)
+    if_long(from(s, text_runs::digits_at(s)), 4)
 }
 
 // Those after the first ":Q:", or else those at the end: 412986 of "STIF:StopPoint:Q:412986:", 5678 of "A:Q:12:5678".

@@ -7,7 +7,7 @@ use mathlib.Core.List.{List}
 use borrow.Author.Tests.{eq-eqb, ne-eqb, lt-ltb, le-ltb}
 use lib.Ieee.{Float}
 use lib.ListN.{length}
-use Rattle.columns.specs.Real.{offGlobeAt}
+use Rattle.column_floats.specs.Real.{offGlobeAt}
 use Rattle.columns.specs.Rows.{among, counts, some}
 use Rattle.measure.specs.Globe.{onGlobe}
 use Rattle.lengths.specs.declared.line.Point.{Point}

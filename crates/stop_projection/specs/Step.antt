@@ -5,7 +5,7 @@ use mathlib.Core.List.{List}
 use lib.Dec.{eqb, ltb}
 use lib.Ieee.{Float}
 use lib.ListN.{length}
-use Rattle.columns.specs.Real.{offGlobeAt}
+use Rattle.column_floats.specs.Real.{offGlobeAt}
 use Rattle.columns.specs.Rows.{some}
 use Rattle.measure.specs.Answer.{Answer, refused, given}
 use Rattle.measure.specs.Globe.{onGlobe}

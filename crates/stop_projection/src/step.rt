@@ -23,7 +23,7 @@ fn refusal(lat: &[f64], lon: &[f64], stop: Point) -> u32
     if 8192 < lat.len() {
         return 2;
     }
-    if columns::off_globe(lat, lon, b"", true) {
+    if column_floats::off_globe(lat, lon, b"", true) {
         return 3;
     }
     if measure::on_globe(stop.lat, stop.lon) {

@@ -30,7 +30,7 @@ fn answer(date: u32) {
             }
             io::print_decimal(STDOUT_FILENO, size(day));
             io::write_all(STDOUT_FILENO, b" ");
-            io::print_decimal(STDOUT_FILENO, days::weekday(day) as u64);
+            io::print_decimal(STDOUT_FILENO, day_counts::weekday(day) as u64);
             io::write_all(STDOUT_FILENO, b"\n");
         }
         ReadDate::NotADate => {

@@ -9,7 +9,8 @@ use lib.Seq.{length-take-le, take-length, take-take}
 use lib.Dec.{leb}
 use borrow.Author.Tests.{le-leb, lt-leb, leb-true}
 use Rattle.ids.proofs.ByteOrder.{both}
-use Rattle.texts.specs.Texts.{prefixOf, suffixOf, trimmedTimes, trimmedText}
+use Rattle.texts.specs.Texts.{suffixOf, trimmedTimes, trimmedText}
+use Rattle.text_folds.specs.Folds.{prefixOf}
 
 pub suffix-fits : (n s : List ℕ) → suffixOf n s ≡ true → length n ≤ length s
 unfolding suffixOf

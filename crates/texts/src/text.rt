@@ -1,20 +1,16 @@
-// Where something stands in a text, and how far a run of bytes goes. What `str::find`, `rfind`,
-// `starts_with`, `ends_with`, `contains`, `trim_end_matches` and `take_while` are asked for in
+// Where something stands in a text. What `str::find`, `starts_with`, `ends_with`, `contains` and `trim_end_matches` are asked for in
 // gtfs/siri_trip_map.rs and rt/estimate.rs.
-use crate::fold;
 use ids::Found;
-use ids::Kind;
-use ids::of_kind;
 ghost use mathlib.Core.Path.{_≡_};
-ghost use Rattle.ids.specs.Bytes.{isOf};
 ghost use Rattle.ids.specs.Cmp.{equal};
-ghost use Rattle.texts.specs.Texts.{prefixOf, suffixOf, holds, equalIgnoringCase, firstByte, lastByte, firstPlace, firstPlaceIgnoringCase, runOf, keptOf, digitsAt, digitRun, alnumRun, trimmedOf, trimmedText};
+ghost use Rattle.texts.specs.Texts.{suffixOf, holds, equalIgnoringCase, firstPlaceIgnoringCase, trimmedText};
+ghost use Rattle.text_folds.specs.Folds.{prefixOf, firstPlace};
 
 // s begins with the needle.
 pub fn begins(s: &[u8], needle: &[u8]) -> bool
     ensures { λ r. ⌜ r ≡ prefixOf (now (needle .entry)) (now (s .entry)) ⌝ }
 {
-    fold::starts(false, s, needle)
+    text_folds::starts(false, s, needle)
 }
 
 // s ends with the needle.
@@ -32,14 +28,14 @@ pub fn ends_with(s: &[u8], needle: &[u8]) -> bool
 pub fn first_place(s: &[u8], needle: &[u8]) -> Found
     ensures { λ r. ⌜ r ≡ firstPlace (now (needle .entry)) (now (s .entry)) ⌝ }
 {
-    fold::place(false, s, needle)
+    text_folds::place(false, s, needle)
 }
 
 // The same where "line" and "LINE" are one.
 pub fn first_place_ignoring_case(s: &[u8], needle: &[u8]) -> Found
     ensures { λ r. ⌜ r ≡ firstPlaceIgnoringCase (now (needle .entry)) (now (s .entry)) ⌝ }
 {
-    fold::place(true, s, needle)
+    text_folds::place(true, s, needle)
 }
 
 // The needle stands somewhere in s.
@@ -56,98 +52,14 @@ pub fn contains(s: &[u8], needle: &[u8]) -> bool
 pub fn same(a: &[u8], b: &[u8]) -> bool
     ensures { λ r. ⌜ r ≡ equal (now (a .entry)) (now (b .entry)) ⌝ }
 {
-    fold::alike(false, a, b)
+    text_folds::alike(false, a, b)
 }
 
 // a and b are equal where "loc" and "LOC" are.
 pub fn equal_ignoring_case(a: &[u8], b: &[u8]) -> bool
     ensures { λ r. ⌜ r ≡ equalIgnoringCase (now (a .entry)) (now (b .entry)) ⌝ }
 {
-    fold::alike(true, a, b)
-}
-
-// Where the byte first stands.
-pub fn first_of(s: &[u8], byte: u8) -> Found
-    ensures { λ r. ⌜ r ≡ firstByte (now (s .entry)) byte ⌝ }
-{
-    let mut k = 0;
-    while k < s.len() {
-        if s[k] == byte {
-            return Found::At(k);
-        }
-        k += 1;
-    }
-    Found::Nothing
-}
-
-// Where the byte last stands.
-pub fn last_of(s: &[u8], byte: u8) -> Found
-    ensures { λ r. ⌜ r ≡ lastByte (now (s .entry)) byte ⌝ }
-{
-    let mut k = s.len();
-    while 0 < k {
-        if s[k - 1] == byte {
-            return Found::At(k - 1);
-        }
-        k -= 1;
-    }
-    Found::Nothing
-}
-
-// How many bytes at the beginning are of the kind.
-pub fn run(s: &[u8], kind: Kind) -> usize
-    ensures { λ r. ⌜ r ≡ runOf (isOf kind) (now (s .entry)) ⌝ }
-{
-    let mut k = 0;
-    while k < s.len() {
-        if !of_kind(kind, s[k]) {
-            return k;
-        }
-        k += 1;
-    }
-    s.len()
-}
-
-// The length of s without the bytes of the kind at its end.
-pub fn kept(s: &[u8], kind: Kind) -> usize
-    ensures { λ r. ⌜ r ≡ keptOf (isOf kind) (now (s .entry)) ⌝ }
-{
-    let mut k = s.len();
-    while 0 < k {
-        if !of_kind(kind, s[k - 1]) {
-            return k;
-        }
-        k -= 1;
-    }
-    0
-}
-
-// Where the digits at the end begin: 7 in "STIF:Q:412".
-pub fn digits_at(s: &[u8]) -> usize
-    ensures { λ r. ⌜ r ≡ digitsAt (now (s .entry)) ⌝ }
-{
-    kept(s, Kind::Digit)
-}
-
-// How many digits stand at the beginning: 3 in "412:".
-pub fn digit_run(s: &[u8]) -> usize
-    ensures { λ r. ⌜ r ≡ digitRun (now (s .entry)) ⌝ }
-{
-    run(s, Kind::Digit)
-}
-
-// How many letters and digits stand at the beginning: 6 in "C01742:".
-pub fn alnum_run(s: &[u8]) -> usize
-    ensures { λ r. ⌜ r ≡ alnumRun (now (s .entry)) ⌝ }
-{
-    run(s, Kind::Alnum)
-}
-
-// The length of s without that byte at its end, however often: 3 of "C01::", without ':'.
-pub fn trimmed(s: &[u8], byte: u8) -> usize
-    ensures { λ r. ⌜ r ≡ trimmedOf (now (s .entry)) byte ⌝ }
-{
-    kept(s, Kind::Byte(byte))
+    text_folds::alike(true, a, b)
 }
 
 // The length of s without that text at its end, however often: 3 of "C01:LOC", without ":LOC".

@@ -3,7 +3,7 @@ use mathlib.Core.Path.{_≡_, refl}
 use mathlib.Core.Bool.{true, false}
 use lib.Ieee.{Float, nan, inf, fin, lt, div, neg, ofBits}
 use Rattle.ids.proofs.ByteOrder.{clash}
-use Rattle.columns.specs.Real.{isFinite}
+use Rattle.column_floats.specs.Real.{isFinite}
 use Rattle.record_faults.proofs.finite.Statement.{statement}
 use Rattle.record_faults.proofs.finite.Tie as tie
 

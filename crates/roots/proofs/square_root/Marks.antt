@@ -15,8 +15,9 @@ use lib.Ieee.Fits.{eq→eqb, round-is}
 use lib.Ieee.Nearest.{closest, closest-same, div-same}
 use lib.Ieee.Order.{round-mono}
 use Rattle.floats.proofs.Compare.{cmp-lt, cmp-eq, cmp-gt}
-use Rattle.roots.specs.Root.{wholeRoot, roundRoot}
-use Rattle.roots.proofs.square_root.Whole.{whole-root-is, whole-root-ge, whole-root-unique, square-lt-back}
+use Rattle.roots.specs.Root.{roundRoot}
+use Rattle.whole_roots.specs.Whole.{wholeRoot}
+use Rattle.whole_roots.proofs.Whole.{whole-root-is, whole-root-ge, whole-root-unique, square-lt-back}
 
 -- ---- the mark of n / d: v is to 2 * h as 4 * n / d is to h * h
 record Mark (v n d : ℕ) : Type 0 where

@@ -10,8 +10,9 @@ use lib.Ieee.{Float, Format, prec, low, size, nearest, units}
 use lib.Ieee.Digits.{size-lt, size-le}
 use lib.Ieee.Fits.{two}
 use Rattle.floats.proofs.Compare.{cmp-lt, cmp-gt}
-use Rattle.roots.specs.Root.{wholeRoot, roundRoot}
-use Rattle.roots.proofs.square_root.Whole.{IsRoot, whole-root-ge, whole-root-lt, whole-root-unique}
+use Rattle.roots.specs.Root.{roundRoot}
+use Rattle.whole_roots.specs.Whole.{wholeRoot}
+use Rattle.whole_roots.proofs.Whole.{IsRoot, whole-root-ge, whole-root-lt, whole-root-unique}
 
 -- ---- the digits
 size-is : (w j : ℕ) → 2 ^ j ≤ w → w < 2 ^ suc j → size w ≡ suc j

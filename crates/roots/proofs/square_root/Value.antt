@@ -1,62 +1,21 @@
--- `builtOf m e` is the root of m * 2 ^ e / 2 ^ 1126, and its bits. Assumes nothing.
+-- `builtOf m e` is the root of m * 2 ^ e / 2 ^ 1126. Assumes nothing.
 use mathlib.Core.Path.{_≡_, refl, sym, ap, _∙_, subst}
-use mathlib.Core.Logic.{inr}
 use Prim.Native.Nat.{ℕ, zero, suc, _+_, _*_, _/_, _%_, _^_, _≤_, _<_}
-use native.Mathlib.Nat.{le-trans, zero-mul, mul-pos, mod-le, lt-irrefl}
+use native.Mathlib.Nat.{zero-mul, mul-pos, lt-irrefl}
 use native.Mathlib.Omega.{arith}
-use mathlib.Core.Bool.{true, false, not, true≢false}
-use lib.Dec.{T}
+use mathlib.Core.Bool.{true, false, true≢false}
 use lib.Pow.{pow-add, pow-pos}
 use lib.IntN.{ℤ}
-use lib.Ieee.{Float, nan, inf, fin, binary64, up, down, units, nanBits, ofBits}
+use lib.Ieee.{Float, nan, inf, fin, binary64, up, down, units}
 use lib.Ieee.Fits.{down-pos}
 use lib.Ieee.Exact.{HasValue}
-use Rattle.roots.specs.Root.{wholeRoot, rootOf, builtOf}
-use Rattle.roots.proofs.square_root.Whole.{whole-root-is, whole-root-ge}
-use Rattle.roots.proofs.square_root.Near.{root-small, scaled-small}
+use Rattle.roots.specs.Root.{rootOf}
+use Rattle.quick_roots.specs.Built.{builtOf}
+use Rattle.whole_roots.specs.Whole.{wholeRoot}
+use Rattle.whole_roots.proofs.Whole.{whole-root-is}
 use Rattle.roots.proofs.square_root.Rounded.{from-whole}
-use Rattle.floats.proofs.Nan.{up-to-infinity}
-use Rattle.floats.proofs.Encode.{units-bits}
+use Rattle.quick_roots.proofs.Bits.{w-lo, w-hi}
 
-no-less : (m b : ℕ) → m ≤ m * (1 + b)
-no-less m b = omega arith
-
-module _ (m : ℕ) (lo : 4503599627370496 ≤ m) (hi : m < 9007199254740992) where
-  module _ (e : ℕ) where
-    abbrev w : ℕ
-    w = m * (1 + e % 2)
-
-    pub w-lo : 4503599627370496 ≤ w
-    w-lo = le-trans lo (no-less m (e % 2))
-
-    pub w-hi : w < 18014398509481984
-    w-hi = scaled-small m (e % 2) hi (omega arith)
-
-    pub r-lo : 9007199254740992 ≤ wholeRoot (w * 2 ^ 54)
-    r-lo = whole-root-ge (w * 2 ^ 54) 9007199254740992 (omega (arith, w-lo))
-
-    pub r-hi : wholeRoot (w * 2 ^ 54) < 18014398509481984
-    r-hi = root-small w w-hi
-
-    module _ (n : ℕ) (N : n ≡ (wholeRoot (w * 2 ^ 54) + 1) / 2) (E : e < 2100) where
-      pub built-small : (e / 2 + 485) * 4503599627370496 + n ≤ 9218868437227405312
-      built-small = omega (arith, r-hi)
-
-      pub no-nan : T (not (nanBits binary64 ((e / 2 + 485) * 4503599627370496 + n)))
-      no-nan = up-to-infinity binary64 _ (le-trans (mod-le _ 9223372036854775808) built-small)
-
-      pub is-built : ofBits binary64 ((e / 2 + 485) * 4503599627370496 + n) ≡ builtOf m e
-      unfolding builtOf
-      is-built =
-          let k = e / 2 + 485 in
-          ap (ofBits binary64) (front (k * 4503599627370496) n)
-          ∙ units-bits binary64 false n k (inr (omega (arith, r-lo))) (omega (arith, r-hi)) (omega arith)
-          ∙ ap (λ (z : ℕ). units binary64 false z k) N
-        where
-          front : (a b : ℕ) → a + b ≡ 0 + a + b
-          front a b = omega arith
-
--- ---- the value
 alg : (num m a b t c den p : ℕ) → num * p ≡ m * (a * a * b) * den → num * (p * (t * (c * c))) ≡ m * b * t * (den * (a * c * (a * c)))
 alg num m a b t c den p h = omega (arith, ap (λ (z : ℕ). z * (t * (c * c))) h)
 

@@ -2,7 +2,7 @@ use borrow.Author.Needs.{needs}
 use mathlib.Core.Path.{_∙_, sym}
 use Rattle.key_parts.proofs.key.base.Statement.{statement}
 use Rattle.key_parts.proofs.key.base.Tie as tie
-use Rattle.texts.proofs.last_of.Reads as last-of-reads
+use Rattle.text_runs.proofs.last_of.Reads as last-of-reads
 use Rattle.parts.proofs.first.Reads as first-reads
 
 last-of-requires : tie.Need-last-of-requires

@@ -1,7 +1,7 @@
 use borrow.Author.Needs.{needs}
 use Rattle.key_parts.proofs.key.without_colons.Statement.{statement}
 use Rattle.key_parts.proofs.key.without_colons.Tie as tie
-use Rattle.texts.proofs.trimmed.Reads as trimmed-reads
+use Rattle.text_runs.proofs.trimmed.Reads as trimmed-reads
 use Rattle.parts.proofs.first.Reads as first-reads
 
 trimmed-requires : tie.Need-trimmed-requires

@@ -2,7 +2,7 @@ use borrow.Author.Needs.{needs}
 use native.Mathlib.Omega.{arith}
 use mathlib.Core.Path.{_≡_, _∙_, ap}
 use mir.Facts.{toZ-ofZ}
-use Rattle.days.specs.Service.{serviceDayOf}
+use Rattle.day_counts.specs.Service.{serviceDayOf}
 use Rattle.moments.proofs.Counts.{ordinal-read, ordinal-small, second-read, second-small, sum-fits, unsigned}
 use Rattle.moments.proofs.moment.today.Statement.{statement}
 use Rattle.moments.proofs.moment.today.Tie as tie

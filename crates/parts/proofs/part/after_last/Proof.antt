@@ -2,7 +2,7 @@ use borrow.Author.Needs.{needs}
 use mathlib.Core.Path.{_∙_, sym}
 use Rattle.parts.proofs.part.after_last.Statement.{statement}
 use Rattle.parts.proofs.part.after_last.Tie as tie
-use Rattle.texts.proofs.last_of.Reads as last-of-reads
+use Rattle.text_runs.proofs.last_of.Reads as last-of-reads
 use Rattle.parts.proofs.part.from.Reads as from-reads
 
 last-of-requires : tie.Need-last-of-requires

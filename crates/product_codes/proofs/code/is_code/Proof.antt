@@ -4,7 +4,7 @@ use Rattle.product_codes.specs.Codes.{isCode}
 use Rattle.product_codes.proofs.code.is_code.Statement.{statement}
 use Rattle.product_codes.proofs.code.is_code.Tie as tie
 use Rattle.ids.proofs.upper.Reads as upper-reads
-use Rattle.texts.proofs.digit_run.Reads as digit-run-reads
+use Rattle.text_runs.proofs.digit_run.Reads as digit-run-reads
 use Rattle.parts.proofs.from.Reads as from-reads
 
 returns : tie.Need-returns

@@ -2,7 +2,7 @@ use borrow.Author.Needs.{needs}
 use Rattle.product_codes.specs.Codes.{word}
 use Rattle.product_codes.proofs.code.word_of.Statement.{statement}
 use Rattle.product_codes.proofs.code.word_of.Tie as tie
-use Rattle.texts.proofs.alnum_run.Reads as alnum-run-reads
+use Rattle.text_runs.proofs.alnum_run.Reads as alnum-run-reads
 use Rattle.parts.proofs.first.Reads as first-reads
 
 alnum-run-requires : tie.Need-alnum-run-requires

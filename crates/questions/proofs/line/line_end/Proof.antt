@@ -8,8 +8,8 @@ use lib.ListN.{length, take, drop, length-drop}
 use Rattle.ids.specs.declared.lookup.Found.the-variants.{At, Nothing}
 use Rattle.ids.specs.First.{orAt}
 use Rattle.ids.proofs.Pools.{rest}
-use Rattle.texts.specs.Texts.{firstByte}
-use Rattle.texts.proofs.Texts.{first-byte-fits}
+use Rattle.text_runs.specs.Runs.{firstByte}
+use Rattle.text_runs.proofs.Runs.{first-byte-fits}
 use Rattle.questions.specs.Lines.{lineEnd}
 use Rattle.questions.proofs.line.line_end.Statement.{statement}
 use Rattle.questions.proofs.line.line_end.Tie as tie

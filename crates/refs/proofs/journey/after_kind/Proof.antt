@@ -6,7 +6,7 @@ use Rattle.parts.specs.Parts.{upTo}
 use Rattle.refs.specs.Refs.{afterKind, isKind}
 use Rattle.refs.proofs.journey.after_kind.Statement.{statement}
 use Rattle.refs.proofs.journey.after_kind.Tie as tie
-use Rattle.texts.proofs.first_of.Reads as first-of-reads
+use Rattle.text_runs.proofs.first_of.Reads as first-of-reads
 use Rattle.refs.proofs.journey.is_kind.Reads as is-kind-reads
 use Rattle.refs.proofs.journey.without_loc_part.Reads as without-loc-part-reads
 use Rattle.parts.proofs.before.Reads as before-reads

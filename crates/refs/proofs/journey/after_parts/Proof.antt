@@ -2,7 +2,7 @@ use borrow.Author.Needs.{needs}
 use Rattle.refs.specs.Refs.{afterParts}
 use Rattle.refs.proofs.journey.after_parts.Statement.{statement}
 use Rattle.refs.proofs.journey.after_parts.Tie as tie
-use Rattle.texts.proofs.first_of.Reads as first-of-reads
+use Rattle.text_runs.proofs.first_of.Reads as first-of-reads
 use Rattle.refs.proofs.journey.after_kind.Reads as after-kind-reads
 use Rattle.parts.proofs.past_place.Reads as past-place-reads
 

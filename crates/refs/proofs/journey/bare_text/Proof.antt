@@ -1,8 +1,8 @@
 use borrow.Author.Needs.{needs}
 use Rattle.refs.proofs.journey.bare_text.Statement.{statement}
 use Rattle.refs.proofs.journey.bare_text.Tie as tie
-use Rattle.texts.proofs.run.Reads as run-reads
-use Rattle.texts.proofs.trimmed.Reads as trimmed-reads
+use Rattle.text_runs.proofs.run.Reads as run-reads
+use Rattle.text_runs.proofs.trimmed.Reads as trimmed-reads
 use Rattle.parts.proofs.first.Reads as first-reads
 use Rattle.parts.proofs.from.Reads as from-reads
 

@@ -8,7 +8,7 @@ use Rattle.refs.specs.Words.{locWord}
 use Rattle.refs.proofs.journey.without_loc_part.Statement.{statement}
 use Rattle.refs.proofs.journey.without_loc_part.Tie as tie
 use Rattle.texts.proofs.equal_ignoring_case.Reads as equal-ignoring-case-reads
-use Rattle.texts.proofs.last_of.Reads as last-of-reads
+use Rattle.text_runs.proofs.last_of.Reads as last-of-reads
 use Rattle.parts.proofs.after_last.Reads as after-last-reads
 use Rattle.parts.proofs.before.Reads as before-reads
 

@@ -1,0 +1,2 @@
+-- What the contracts say: the calendar the long way.
+pub mod Gregorian

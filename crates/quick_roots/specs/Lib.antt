@@ -1,0 +1,2 @@
+-- `Built`: the root as it is built of its digits.
+pub mod Built

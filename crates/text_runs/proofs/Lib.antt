@@ -1,0 +1,2 @@
+-- `Runs`: what a loop over a text sees next, and where a run ends.
+pub mod Runs

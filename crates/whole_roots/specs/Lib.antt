@@ -1,0 +1,2 @@
+-- `Whole`: the whole part of a root.
+pub mod Whole
