@@ -1,8 +1,8 @@
--- `exports_line::metres::tell_metres` meets its contract.
+-- `line_told::metres::tell_metres` meets its contract.
 use lib.Ieee.{ofBits}
 use borrow.Author.Needs.{needs}
-use Rattle.exports_line.proofs.metres.tell_metres.Statement.{statement}
-use Rattle.exports_line.proofs.metres.tell_metres.Tie as tie
+use Rattle.line_told.proofs.metres.tell_metres.Statement.{statement}
+use Rattle.line_told.proofs.metres.tell_metres.Tie as tie
 
 enum-known-c : tie.Need-enum-known-c
 enum-known-c c = search needs

@@ -1,23 +1,19 @@
--- Answers about a line as numbers, for C. Definitions only.
+-- Answers about a line and about stops on it as numbers, for C. Definitions only.
 use Prim.Native.Nat.{ℕ}
-use mathlib.Core.Bool.{cond, _||_}
-use lib.Dec.{eqb, ltb}
 use lib.Ieee.{Float}
 use Rattle.floats.specs.Number.{nought}
 use Rattle.measure.specs.Answer.{Answer, refused, given}
-use Rattle.tables.specs.Pools.{Pools}
-use Rattle.tables.specs.declared.lent.Along.{Along}
 use Rattle.calibration.specs.declared.affine.Calibrated.{Calibrated}
 use Rattle.calibration.specs.declared.affine.Calibrated.the-variants.{By, Nothing as Uncalibrated}
 use Rattle.calibrate.specs.Answers.{Perhaps, none, one}
 use Rattle.stretches.specs.declared.drawing.Interpolated.{Interpolated}
 use Rattle.stretches.specs.declared.drawing.Interpolated.the-variants.{At, Nothing}
-use Rattle.interpolate.specs.Answers.{interpolationOf}
-use Rattle.interpolate.specs.declared.asked.Question.{Question}
-use Rattle.interpolate.specs.declared.asked.Question.the-variants.{ByDistance, ByFeedDistance, AlongVertices, Polyline}
-use Rattle.exports_line.specs.declared.scale.ScaleTold.{ScaleTold}
-use Rattle.exports_line.specs.declared.metres.MetresTold.{MetresTold}
-use Rattle.exports_line.specs.declared.position.PositionTold.{PositionTold}
+use Rattle.projection.specs.declared.cursor.Step.{Step}
+use Rattle.line_told.specs.declared.scale.ScaleTold.{ScaleTold}
+use Rattle.line_told.specs.declared.metres.MetresTold.{MetresTold}
+use Rattle.line_told.specs.declared.position.PositionTold.{PositionTold}
+use Rattle.line_told.specs.declared.step.StepTold.{StepTold}
+use Rattle.line_told.specs.declared.trip.RowsTold.{RowsTold}
 
 abbrev pub scaleTold : Answer (Perhaps Float) → ScaleTold
 scaleTold (given (one x)) = record { scale = x; answered = 1; refusal = 0 }
@@ -37,10 +33,10 @@ positionTold (given (At d)) = record { lat = d .lat; lon = d .lon; bearing = d .
 positionTold (given Nothing) = noPosition 0
 positionTold (refused n) = noPosition n
 
--- a question by its number
-abbrev pub questionOf : ℕ → Question
-questionOf n = cond (eqb n 1) ByDistance (cond (eqb n 2) ByFeedDistance (cond (eqb n 3) AlongVertices Polyline))
+abbrev pub stepTold : Answer Step → StepTold
+stepTold (given s) = record { cursor = s .cursor .at; vertex = s .vertex; refusal = 0 }
+stepTold (refused n) = record { cursor = 0; vertex = 0; refusal = n }
 
--- 1 for a number that is no question's; else what interpolation answers
-abbrev pub interpolationTold : Pools → ℕ → Along → PositionTold
-interpolationTold p n a = cond (eqb n 0 || ltb 4 n) (noPosition 1) (positionTold (interpolationOf p (questionOf n) a))
+abbrev pub rowsTold : Answer ℕ → RowsTold
+rowsTold (given n) = record { rows = n; refusal = 0 }
+rowsTold (refused n) = record { rows = 0; refusal = n }

@@ -1,7 +1,7 @@
--- `exports_stops::trip::tell_rows` meets its contract.
+-- `line_told::trip::tell_rows` meets its contract.
 use borrow.Author.Needs.{needs}
-use Rattle.exports_stops.proofs.trip.tell_rows.Statement.{statement}
-use Rattle.exports_stops.proofs.trip.tell_rows.Tie as tie
+use Rattle.line_told.proofs.trip.tell_rows.Statement.{statement}
+use Rattle.line_told.proofs.trip.tell_rows.Tie as tie
 
 enum-known-p : tie.Need-enum-known-p
 enum-known-p c = search needs

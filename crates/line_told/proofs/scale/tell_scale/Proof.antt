@@ -1,8 +1,8 @@
--- `exports_line::scale::tell_scale` meets its contract.
+-- `line_told::scale::tell_scale` meets its contract.
 use lib.Ieee.{ofBits}
 use borrow.Author.Needs.{needs}
-use Rattle.exports_line.proofs.scale.tell_scale.Statement.{statement}
-use Rattle.exports_line.proofs.scale.tell_scale.Tie as tie
+use Rattle.line_told.proofs.scale.tell_scale.Statement.{statement}
+use Rattle.line_told.proofs.scale.tell_scale.Tie as tie
 
 enum-known-s : tie.Need-enum-known-s
 enum-known-s c = search needs

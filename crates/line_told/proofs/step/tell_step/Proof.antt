@@ -1,7 +1,7 @@
--- `exports_stops::step::tell_step` meets its contract.
+-- `line_told::step::tell_step` meets its contract.
 use borrow.Author.Needs.{needs}
-use Rattle.exports_stops.proofs.step.tell_step.Statement.{statement}
-use Rattle.exports_stops.proofs.step.tell_step.Tie as tie
+use Rattle.line_told.proofs.step.tell_step.Statement.{statement}
+use Rattle.line_told.proofs.step.tell_step.Tie as tie
 
 enum-known-s : tie.Need-enum-known-s
 enum-known-s c = search needs

@@ -1,7 +1,7 @@
--- `exports_line::position::tell_position` meets its contract.
+-- `line_told::position::tell_position` meets its contract.
 use borrow.Author.Needs.{needs}
-use Rattle.exports_line.proofs.position.tell_position.Statement.{statement}
-use Rattle.exports_line.proofs.position.tell_position.Tie as tie
+use Rattle.line_told.proofs.position.tell_position.Statement.{statement}
+use Rattle.line_told.proofs.position.tell_position.Tie as tie
 
 enum-known-i : tie.Need-enum-known-i
 enum-known-i c = search needs
