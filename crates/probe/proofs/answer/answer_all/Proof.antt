@@ -1,10 +1,10 @@
--- `probe_answers::answer::answer_all` is safe and ends: the pools keep their lengths.
+-- `probe::answer::answer_all` is safe and ends: the pools keep their lengths.
 use Prim.Native.Nat.{_≤_, _+_, _-_}
 use mathlib.Core.Path.{_≡_}
 use lib.ListN.{length}
 use borrow.Author.Needs.{needs}
-use Rattle.probe_answers.proofs.answer.answer_all.Statement.{statement}
-use Rattle.probe_answers.proofs.answer.answer_all.Tie as tie
+use Rattle.probe.proofs.answer.answer_all.Statement.{statement}
+use Rattle.probe.proofs.answer.answer_all.Tie as tie
 
 abbrev Inv-loop : tie.InvT-loop
 Inv-loop queries bytes₀ words₀ times₀ reals₀ dists₀ c n text at₀ bytes words times reals dists at =

@@ -102,7 +102,7 @@ fn line_end(text: &[u8], at: usize) -> usize
 }
 
 // An answer for each line of queries.
-pub fn answer_all(
+pub(crate) fn answer_all(
     queries: &[u8],
     bytes: &mut [u8],
     words: &mut [u32],

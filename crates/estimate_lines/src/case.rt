@@ -1,5 +1,5 @@
-// A case of standard input and the Board's line for it, on pools of its own. `board` answers one case by it, and `test_board` one after another. As programs, its
-// function is proved safe and ending.
+// A case of standard input and the Board's line for it, on pools of its own. `board` answers one case by it, and `test_board` one after another.
+use crate::board::print_line;
 use cases::Reading;
 
 // Reads a case, up to a line `end` or the end of the text, and writes its line. The bytes of the chunk `text` from `at` up
@@ -30,7 +30,7 @@ pub fn answer_case(text: &mut [u8], line: &mut [u8], end: &[u8], at: usize, n: u
         cases::start(at, n),
     );
     if read.good {
-        estimate_lines::print_line(bytes, words, times, reals, dists);
+        print_line(bytes, words, times, reals, dists);
     } else {
         cases::print_fault(read);
     }

@@ -1,9 +1,9 @@
--- `probe_answers::answer::line_end` meets its contract.
+-- `probe::answer::line_end` meets its contract.
 use Prim.Native.Nat.{_≤_, _-_}
 use lib.ListN.{length}
 use borrow.Author.Needs.{needs}
-use Rattle.probe_answers.proofs.answer.line_end.Statement.{statement}
-use Rattle.probe_answers.proofs.answer.line_end.Tie as tie
+use Rattle.probe.proofs.answer.line_end.Statement.{statement}
+use Rattle.probe.proofs.answer.line_end.Tie as tie
 
 abbrev Inv-loop : tie.InvT-loop
 Inv-loop text at i₀ i = (at ≤ i) × (i ≤ length text)
