@@ -5,5 +5,5 @@ fn main() {
     let text: &mut [u8] = &mut text_space;
     let line: &mut [u8] = &mut line_space;
     // no line is a newline: the case goes to the end of the text
-    board_case::answer_case(text, line, b"\n", 0, 0);
+    estimate_lines::answer_case(text, line, b"\n", 0, 0);
 }

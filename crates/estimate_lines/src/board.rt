@@ -59,7 +59,7 @@ fn line(bytes: &[u8], words: &[u32], e: Estimate) {
 }
 
 // Writes the line of the case that the pools hold.
-pub fn print_line(bytes: &[u8], words: &[u32], times: &[i64], reals: &[f64], dists: &[f32]) {
+pub(crate) fn print_line(bytes: &[u8], words: &[u32], times: &[i64], reals: &[f64], dists: &[f32]) {
     match asked(bytes, words, times, reals, dists) {
         Estimated::At(e, _) => line(bytes, words, e),
         Estimated::Silence => cases::print_none(),

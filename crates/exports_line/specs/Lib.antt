@@ -1,2 +1,2 @@
--- `Told`: answers as numbers.
-pub mod Told
+-- `Asked`: interpolation by a question's number.
+pub mod Asked

@@ -4,9 +4,6 @@ mod metres; // metres.rt: calibration by samples
 mod position; // position.rt: interpolation
 mod scale; // scale.rt: the unit of a ratio
 
-pub use metres::MetresTold;
 pub use metres::zebumorn_calibrate;
-pub use position::PositionTold;
 pub use position::zebumorn_interpolate;
-pub use scale::ScaleTold;
 pub use scale::zebumorn_snap_scale;

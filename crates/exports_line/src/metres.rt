@@ -1,48 +1,14 @@
 // The metres that samples' distances stand for.
-use calibrate::Calibration;
 use calibrate::shape_dist_affine;
 use ids::Span;
+use line_told::MetresTold;
+use line_told::tell_metres;
 use tables::Points;
 use tables::Samples;
 ghost use mathlib.Core.Path.{_≡_};
 ghost use Rattle.tables.specs.Pools.{pools};
-ghost use Rattle.calibrate.specs.Answers.{calibrationAnswer, calibrationOf};
-ghost use Rattle.exports_line.specs.Told.{metresTold};
-
-// A distance d stands for shift + scale·d metres. `refusal`: document 01's number, or 0. `answered`: 1 with a
-// calibration, else 0, and so are its numbers.
-#[repr(C)]
-pub struct MetresTold {
-    pub shift: f64,
-    pub scale: f64,
-    pub answered: u32,
-    pub refusal: u32,
-}
-
-fn tell_metres(c: Calibration) -> MetresTold
-    ensures { λ r. ⌜ r ≡ metresTold (calibrationAnswer c) ⌝ }
-{
-    match c {
-        Calibration::By(f) => MetresTold {
-            shift: f.a,
-            scale: f.b,
-            answered: 1,
-            refusal: 0,
-        },
-        Calibration::Nothing => MetresTold {
-            shift: 0.0,
-            scale: 0.0,
-            answered: 0,
-            refusal: 0,
-        },
-        Calibration::Refused(refusal) => MetresTold {
-            shift: 0.0,
-            scale: 0.0,
-            answered: 0,
-            refusal,
-        },
-    }
-}
+ghost use Rattle.calibrate.specs.Answers.{calibrationOf};
+ghost use Rattle.line_told.specs.Told.{metresTold};
 
 #[no_mangle]
 pub extern "C" fn zebumorn_calibrate(

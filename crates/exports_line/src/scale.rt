@@ -1,43 +1,14 @@
 // The unit that a ratio is near.
-use calibrate::Snapped;
 use calibrate::snap_unit_scale;
 use ids::Span;
+use line_told::ScaleTold;
+use line_told::tell_scale;
 use tables::Points;
 use tables::Samples;
 ghost use mathlib.Core.Path.{_≡_};
 ghost use Rattle.tables.specs.Pools.{pools};
-ghost use Rattle.calibrate.specs.Answers.{snappedAnswer, snappedOf};
-ghost use Rattle.exports_line.specs.Told.{scaleTold};
-
-// `refusal`: document 01's number, or 0. `answered`: 1 with a scale, else 0, and so is the scale.
-#[repr(C)]
-pub struct ScaleTold {
-    pub scale: f64,
-    pub answered: u32,
-    pub refusal: u32,
-}
-
-fn tell_scale(s: Snapped) -> ScaleTold
-    ensures { λ r. ⌜ r ≡ scaleTold (snappedAnswer s) ⌝ }
-{
-    match s {
-        Snapped::Scale(scale) => ScaleTold {
-            scale,
-            answered: 1,
-            refusal: 0,
-        },
-        Snapped::Nothing => ScaleTold {
-            scale: 0.0,
-            answered: 0,
-            refusal: 0,
-        },
-        Snapped::Refused(refusal) => ScaleTold {
-            scale: 0.0,
-            answered: 0,
-            refusal,
-        },
-    }
-}
+ghost use Rattle.calibrate.specs.Answers.{snappedOf};
+ghost use Rattle.line_told.specs.Told.{scaleTold};
 
 // The ratio is the first of the numbers.
 #[no_mangle]

@@ -3,7 +3,5 @@
 mod step; // step.rt: a stop
 mod trip; // trip.rt: a trip's stops
 
-pub use step::StepTold;
 pub use step::zebumorn_project_stop;
-pub use trip::RowsTold;
 pub use trip::zebumorn_project_trip;

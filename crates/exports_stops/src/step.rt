@@ -1,39 +1,12 @@
 // A stop from a cursor on.
 use lengths::Point;
+use line_told::StepTold;
+use line_told::tell_step;
 use projection::Cursor;
-use stop_projection::Stepped;
 use stop_projection::project_stop;
 ghost use mathlib.Core.Path.{_≡_};
-ghost use Rattle.stop_projection.specs.Step.{stepAnswer, steppedOf};
-ghost use Rattle.exports_stops.specs.Told.{stepTold};
-
-// `refusal`: document 01's number, or 0. Where it is refused, the next cursor and the vertex are 0.
-#[repr(C)]
-pub struct StepTold {
-    pub cursor: usize,
-    pub vertex: usize,
-    pub refusal: u32,
-}
-
-fn tell_step(s: Stepped) -> StepTold
-    ensures { λ r. ⌜ r ≡ stepTold (stepAnswer s) ⌝ }
-{
-    match s {
-        Stepped::To(step) => {
-            let next = step.cursor;
-            StepTold {
-                cursor: next.at,
-                vertex: step.vertex,
-                refusal: 0,
-            }
-        }
-        Stepped::Refused(refusal) => StepTold {
-            cursor: 0,
-            vertex: 0,
-            refusal,
-        },
-    }
-}
+ghost use Rattle.stop_projection.specs.Step.{steppedOf};
+ghost use Rattle.line_told.specs.Told.{stepTold};
 
 // The stop is at latitude y and longitude x.
 #[no_mangle]

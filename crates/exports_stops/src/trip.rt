@@ -1,29 +1,14 @@
 // A trip's stops.
 use ids::IdColumn;
+use line_told::RowsTold;
+use line_told::tell_rows;
 use tables::LegAsked;
 use tables::Tables;
-use trip_projection::Projected;
 use trip_projection::project_trip;
 ghost use mathlib.Core.Path.{_≡_};
 ghost use Rattle.tables.specs.Pools.{pools};
-ghost use Rattle.trip_projection.specs.Answers.{projectAnswer, projectedOf, outputOf};
-ghost use Rattle.exports_stops.specs.Told.{rowsTold};
-
-// `refusal`: document 01's number, or 0. `rows`: how many rows of the output are written; 0 where it is refused.
-#[repr(C)]
-pub struct RowsTold {
-    pub rows: usize,
-    pub refusal: u32,
-}
-
-fn tell_rows(p: Projected) -> RowsTold
-    ensures { λ r. ⌜ r ≡ rowsTold (projectAnswer p) ⌝ }
-{
-    match p {
-        Projected::Rows(rows) => RowsTold { rows, refusal: 0 },
-        Projected::Refused(refusal) => RowsTold { rows: 0, refusal },
-    }
-}
+ghost use Rattle.trip_projection.specs.Answers.{projectedOf, outputOf};
+ghost use Rattle.line_told.specs.Told.{rowsTold};
 
 // The trip is the one whose id is row 0 of the column.
 #[no_mangle]

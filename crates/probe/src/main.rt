@@ -1,4 +1,8 @@
 // Answers the queries of a case, one line each, in their order: reads the whole case, then answers each query from it. docs/CASES.md has the language.
+mod answer; // answer.rt: each query by its kind
+mod numbers; // numbers.rt: the maths, lengths and bearings
+
+use crate::answer::answer_all;
 use probe_pools::asked;
 
 fn main() {
@@ -33,7 +37,7 @@ fn main() {
     );
     if read.good {
         asked::plain_ids(bytes, words);
-        probe_answers::answer_all(queries, bytes, words, times, reals, dists);
+        answer_all(queries, bytes, words, times, reals, dists);
     } else {
         cases::print_fault(read);
     }

@@ -1,6 +1,6 @@
 // Replays cases through what `board` is made of: cases one after another, each ended by a line `(end)`, the last by the end of the text; one line of answer for each.
 // The cases are those of examples/, in the order of their names.
-use board_case::answer_case;
+use estimate_lines::answer_case;
 
 // More cases than any text has.
 const CASES: u64 = 9223372036854775808;
