@@ -3,13 +3,13 @@
 use crate::dist::seq_dist;
 use crate::leg::leg_rows;
 use crate::leg::leg_span;
-use by_distance::Spanned;
 use chains::chain_route;
 use ids::Found;
 use lengths::vertices;
 use paths::End;
 use paths::Path;
 use paths::feed_span;
+use spans::Spanned;
 use stop_routes::Routed;
 use stop_routes::route_between;
 use trip_rows::shape_column;

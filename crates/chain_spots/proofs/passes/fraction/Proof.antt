@@ -1,5 +1,5 @@
 -- `chain_spots::passes::fraction` meets its contract.
-use Rattle.stretches.specs.Search.{fractionOf}
+use Rattle.first_stretch.specs.Search.{fractionOf}
 use Rattle.chain_vertices.proofs.Small.{micro-is}
 use Rattle.chain_spots.proofs.passes.fraction.Statement.{statement}
 use Rattle.chain_spots.proofs.passes.fraction.Tie as tie

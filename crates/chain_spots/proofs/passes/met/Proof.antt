@@ -1,5 +1,5 @@
 -- `chain_spots::passes::met` meets its contract.
-use Rattle.stretches.specs.Search.{meets}
+use Rattle.first_stretch.specs.Search.{meets}
 use Rattle.chain_vertices.proofs.Small.{nano-is}
 use Rattle.chain_spots.proofs.passes.met.Statement.{statement}
 use Rattle.chain_spots.proofs.passes.met.Tie as tie
