@@ -8,12 +8,12 @@ use lib.ListN.{length}
 use Rattle.lengths.specs.declared.line.Point.{Point}
 use Rattle.line_parts.specs.Part.{wholeOf}
 use Rattle.stretches.specs.Drawing.{drawOf}
-use Rattle.stretches.specs.declared.spot.Way.{Way}
+use Rattle.ways.specs.declared.way.Way.{Way}
 use Rattle.stretches.specs.declared.drawing.Interpolated.the-variants.{At, Nothing}
-use Rattle.by_distance.specs.Span.{spanOf}
+use Rattle.spans.specs.Span.{spanOf}
 use Rattle.by_distance.specs.Interpolate.{spotOver, byDist}
-use Rattle.by_distance.specs.declared.span.Span.{Span}
-use Rattle.by_distance.specs.declared.span.Spanned.the-variants.{Over, Short}
+use Rattle.spans.specs.declared.span.Span.{Span}
+use Rattle.spans.specs.declared.span.Spanned.the-variants.{Over, Short}
 use Rattle.routes.specs.Route.{routeOf, alongOf, alongVertices}
 use Rattle.routes.specs.declared.route.Route.{Route}
 use Rattle.polylines.specs.Polyline.{spotAlong, polylineOf}

@@ -17,13 +17,13 @@ use Rattle.floats.proofs.Within.{within-finite}
 use Rattle.ieee.specs.Number.{clamp01Of}
 use Rattle.lengths.specs.declared.line.Point.{Point}
 use Rattle.line_parts.specs.Part.{stretches, lengthFrom, partLength}
-use Rattle.stretches.specs.Search.{firstMet, stretchAt}
-use Rattle.stretches.specs.Spot.{turnedOf}
+use Rattle.first_stretch.specs.Search.{firstMet, stretchAt}
+use Rattle.ways.specs.Way.{turnedOf}
 use Rattle.line_parts.specs.declared.part.Part.{Part}
 use Rattle.stretches.specs.declared.spot.Spot.{Spot}
 use Rattle.stretches.specs.declared.spot.Spot.the-variants.{First, Straight, NoStretch}
-use Rattle.stretches.specs.declared.spot.Way.{Way}
-use Rattle.stretches.specs.declared.spot.Way.the-variants.{With, Against}
+use Rattle.ways.specs.declared.way.Way.{Way}
+use Rattle.ways.specs.declared.way.Way.the-variants.{With, Against}
 use Rattle.routes.specs.Route.{nano, routeOf, insideOf, alongOf}
 use Rattle.routes.specs.declared.route.Route.{Route}
 use Rattle.nearest.specs.Nearest.{nearestOf}

@@ -17,14 +17,14 @@ use Rattle.ieee.specs.Number.{absOf, clamp01Of}
 use Rattle.ieee.specs.Single.{narrowOf}
 use Rattle.lengths.specs.declared.line.Point.{Point}
 use Rattle.line_parts.specs.Part.{stretches, wholeOf, lengthFrom}
-use Rattle.stretches.specs.Search.{micro, stretchAt}
-use Rattle.stretches.specs.declared.spot.Way.{Way}
-use Rattle.stretches.specs.declared.spot.Way.the-variants.{With, Against}
-use Rattle.by_distance.specs.Span.{half, spread, spanOf, targetOf, feedMetres}
+use Rattle.first_stretch.specs.Search.{micro, stretchAt}
+use Rattle.ways.specs.declared.way.Way.{Way}
+use Rattle.ways.specs.declared.way.Way.the-variants.{With, Against}
+use Rattle.spans.specs.Span.{half, spread, spanOf, targetOf, feedMetres}
 use Rattle.by_distance.specs.Interpolate.{spotOver}
-use Rattle.by_distance.specs.declared.span.Span.{Span}
-use Rattle.by_distance.specs.declared.span.Spanned.{Spanned}
-use Rattle.by_distance.specs.declared.span.Spanned.the-variants.{Over, Short}
+use Rattle.spans.specs.declared.span.Span.{Span}
+use Rattle.spans.specs.declared.span.Spanned.{Spanned}
+use Rattle.spans.specs.declared.span.Spanned.the-variants.{Over, Short}
 use Rattle.along_order.specs.Order.{NoEarlier}
 use Rattle.along_order.specs.Granted.{Lengths, Distance}
 use Rattle.along_order.proofs.Clamp.{clamp-low, clamp-high, clamp-mono, micro-pos, Aim}

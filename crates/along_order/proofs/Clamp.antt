@@ -8,7 +8,7 @@ use Rattle.floats.proofs.Order.{number, le-number-left, le-number-right, trans-
 use Rattle.floats.proofs.Sums.{sub-number-left, sub-mono, sub-nonneg, sub-le}
 use Rattle.floats.proofs.Products.{div-number, div-mono, one-pos}
 use Rattle.ieee.specs.Number.{clamp01Of, maxOf}
-use Rattle.stretches.specs.Search.{micro, fractionOf}
+use Rattle.first_stretch.specs.Search.{micro, fractionOf}
 
 -- ---- the clamp
 

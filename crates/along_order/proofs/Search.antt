@@ -10,7 +10,7 @@ use lib.Ieee.Fits.{and-i, and-r}
 use Rattle.floats.specs.Number.{nought}
 use Rattle.floats.proofs.Order.{finite-number, le-number-right, trans-le, lt-le, not-le-lt}
 use Rattle.floats.proofs.Sums.{add-nonneg, add-up}
-use Rattle.stretches.specs.Search.{meets, fractionOf, firstMet}
+use Rattle.first_stretch.specs.Search.{meets, fractionOf, firstMet}
 use Rattle.line_parts.specs.declared.part.Part.{Part}
 use Rattle.stretches.specs.declared.spot.Spot.{Spot}
 use Rattle.stretches.specs.declared.spot.Spot.the-variants.{Stretch, NoStretch}

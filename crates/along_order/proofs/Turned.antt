@@ -6,11 +6,11 @@ use lib.Ieee.{Float, binary64, sub, le}
 use Rattle.floats.specs.Number.{nought, one}
 use Rattle.floats.proofs.Order.{le-number-left, le-number-right}
 use Rattle.floats.proofs.Sums.{sub-number-left, sub-anti, one-less-nonneg, one-less-le}
-use Rattle.stretches.specs.Spot.{turnedOf}
+use Rattle.ways.specs.Way.{turnedOf}
 use Rattle.line_parts.specs.declared.part.Part.{Part}
 use Rattle.stretches.specs.declared.spot.Spot.{Spot}
-use Rattle.stretches.specs.declared.spot.Way.{Way}
-use Rattle.stretches.specs.declared.spot.Way.the-variants.{With, Against}
+use Rattle.ways.specs.declared.way.Way.{Way}
+use Rattle.ways.specs.declared.way.Way.the-variants.{With, Against}
 use Rattle.along_order.specs.Order.{fractionAt, NoEarlier}
 use Rattle.along_order.proofs.Search.{Before}
 

@@ -5,12 +5,12 @@ use mathlib.Core.Logic.{_⊎_}
 use lib.Dec.{T}
 use lib.Ieee.{Float, le}
 use Rattle.floats.specs.Number.{nought}
-use Rattle.stretches.specs.Spot.{turnedOf}
+use Rattle.ways.specs.Way.{turnedOf}
 use Rattle.line_parts.specs.declared.part.Part.{Part}
 use Rattle.stretches.specs.declared.spot.Spot.{Spot}
 use Rattle.stretches.specs.declared.spot.Spot.the-variants.{First, Stretch, Straight, NoStretch}
-use Rattle.stretches.specs.declared.spot.Way.{Way}
-use Rattle.stretches.specs.declared.spot.Way.the-variants.{With, Against}
+use Rattle.ways.specs.declared.way.Way.{Way}
+use Rattle.ways.specs.declared.way.Way.the-variants.{With, Against}
 
 -- which comes where in the order of the vertices: the first vertex, the stretches, the last vertex, which a target on no stretch counts as
 abbrev pub rankOf : Part → Spot → ℕ

@@ -11,7 +11,7 @@ use Rattle.ids.specs.declared.pool.Span.{Span}
 use Rattle.tables.specs.Pools.{Pools, pools}
 use Rattle.tables.specs.declared.lent.Tables.{Tables}
 use Rattle.measure.specs.Answer.{given}
-use Rattle.stretches.specs.declared.spot.Way.the-variants.{With}
+use Rattle.ways.specs.declared.way.Way.the-variants.{With}
 use Rattle.paths.specs.declared.path.Line.the-variants.{Straight}
 use Rattle.legs.specs.declared.place.Place.the-variants.{Call, Stretch}
 use Rattle.paths.specs.declared.status.Status.the-variants.{StoppedAt, InTransitTo}

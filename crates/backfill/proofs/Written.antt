@@ -10,7 +10,7 @@ use Rattle.ieee.specs.Single.{narrowOf}
 use Rattle.unit_scales.specs.declared.metres.Affine.{Affine}
 use Rattle.lengths.specs.Length.{lengthTo}
 use Rattle.lengths.specs.declared.line.Point.{Point}
-use Rattle.near_vertex.specs.Near.{startOf}
+use Rattle.near_vertex.specs.Forward.{startOf}
 use Rattle.projection.specs.Projection.{stepOf}
 use Rattle.projection.specs.declared.cursor.Position.{Position}
 use Rattle.projection.specs.declared.cursor.Position.the-variants.{Known, Missing}

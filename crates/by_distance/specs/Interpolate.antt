@@ -6,15 +6,15 @@ use lib.Ieee.{Float}
 use lib.ListN.{length}
 use Rattle.lengths.specs.declared.line.Point.{Point}
 use Rattle.line_parts.specs.Part.{wholeOf}
-use Rattle.stretches.specs.Search.{micro, stretchAt}
+use Rattle.first_stretch.specs.Search.{micro, stretchAt}
 use Rattle.stretches.specs.Drawing.{drawOf}
 use Rattle.stretches.specs.declared.spot.Spot.{Spot}
-use Rattle.by_distance.specs.declared.span.Span.{Span}
-use Rattle.by_distance.specs.declared.span.Spanned.{Spanned}
-use Rattle.by_distance.specs.declared.span.Spanned.the-variants.{Over, Short}
+use Rattle.spans.specs.declared.span.Span.{Span}
+use Rattle.spans.specs.declared.span.Spanned.{Spanned}
+use Rattle.spans.specs.declared.span.Spanned.the-variants.{Over, Short}
 use Rattle.stretches.specs.declared.drawing.Interpolated.{Interpolated}
 use Rattle.stretches.specs.declared.drawing.Interpolated.the-variants.{At, Nothing}
-use Rattle.by_distance.specs.Span.{spanOf, targetOf, feedMetres}
+use Rattle.spans.specs.Span.{spanOf, targetOf, feedMetres}
 
 -- where a span is at a fraction of it in sailing direction
 unfoldable pub spotOver : List Point → Span → Float → Spot

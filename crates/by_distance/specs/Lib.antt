@@ -1,3 +1,2 @@
--- What the contracts cite. `Span`: two distances and the way between them. `Interpolate`: the place and the position at a fraction of it.
-pub mod Span
+-- What the contracts cite. `Interpolate`: the place and the position at a fraction of a span.
 pub mod Interpolate

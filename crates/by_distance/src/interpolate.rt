@@ -2,17 +2,17 @@
 ghost use mathlib.Core.Path.{_≡_};
 ghost use Rattle.lengths.specs.Line.{lineOf};
 ghost use Rattle.by_distance.specs.Interpolate.{spotOver, drawnOver, byDist, byFeedDist};
-use crate::span::Span;
-use crate::span::Spanned;
-use crate::span::feed_metres;
-use crate::span::span_of;
-use crate::span::target;
+use first_stretch::stretch_at;
 use lengths::vertices;
 use line_parts::whole;
+use spans::Span;
+use spans::Spanned;
+use spans::feed_metres;
+use spans::span_of;
+use spans::target;
 use stretches::Interpolated;
 use stretches::Spot;
 use stretches::draw;
-use stretches::stretch_at;
 
 // Where a span is at a fraction of it in sailing direction.
 pub fn spot_over(lat: &[f64], lon: &[f64], span: Span, frac: f64) -> Spot

@@ -10,12 +10,12 @@ use Rattle.lengths.specs.Line.{metresOf}
 use Rattle.lengths.specs.declared.line.Point.{Point}
 use Rattle.projection.specs.declared.cursor.Position.{Position}
 use Rattle.line_parts.specs.Part.{at, stretchLength, lengthFrom}
-use Rattle.stretches.specs.Search.{meets, fractionOf, firstMet, stretchAt}
+use Rattle.first_stretch.specs.Search.{meets, fractionOf, firstMet, stretchAt}
 use Rattle.stretches.specs.Drawing.{drawOf, firstOf, heldAt}
 use Rattle.line_parts.specs.declared.part.Part.{Part}
 use Rattle.stretches.specs.declared.spot.Spot.the-variants.{First, Stretch, NoStretch}
 use Rattle.line_parts.proofs.Sums.{next-sum}
-use Rattle.stretches.proofs.Turns.{hit, miss}
+use Rattle.first_stretch.proofs.Turns.{hit, miss}
 use Rattle.routes.specs.Route.{insideOf, alongOf}
 use Rattle.routes.specs.declared.route.Route.{Route}
 use Rattle.chain_rows.specs.declared.chain.Chain.{Chain}

@@ -13,7 +13,7 @@ ghost use mathlib.Core.Path.{_≡_};
 ghost use lib.ListN.{length};
 ghost use Prim.Native.Nat.{_-_};
 ghost use Rattle.line_parts.specs.Part.{partLength};
-ghost use Rattle.stretches.specs.Search.{stretchAt};
+ghost use Rattle.first_stretch.specs.Search.{stretchAt};
 ghost use Rattle.routes.specs.Route.{nano};
 ghost use Rattle.chain_lines.specs.Chain.{stopOf, lineFrom};
 ghost use Rattle.chain_vertices.specs.Marks.{Marked};

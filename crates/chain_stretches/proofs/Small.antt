@@ -1,7 +1,7 @@
 -- What the code writes for 1e-9 and 1e-6. Assumes nothing.
 use mathlib.Core.Path.{_≡_, refl}
 use lib.Ieee.{binary64, div, ofBits, ofInt}
-use Rattle.stretches.specs.Search.{micro}
+use Rattle.first_stretch.specs.Search.{micro}
 use Rattle.routes.specs.Route.{nano}
 
 pub nano-is : ofBits binary64 0x3e112e0be826d695 ≡ nano

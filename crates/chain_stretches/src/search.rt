@@ -2,7 +2,7 @@
 use ieee::clamp01;
 use ieee::max_of;
 ghost use mathlib.Core.Path.{_≡_};
-ghost use Rattle.stretches.specs.Search.{meets, fractionOf};
+ghost use Rattle.first_stretch.specs.Search.{meets, fractionOf};
 ghost use Rattle.routes.specs.Route.{nano};
 
 // Whether a target is on the stretch from the length `from` to the length `to`, or no more than 1e-9 past it.

@@ -4,7 +4,7 @@ use estimate_answers::Estimated;
 use legs::Place;
 use libc::STDOUT_FILENO;
 use paths::Line;
-use stretches::Way;
+use ways::Way;
 
 fn text(s: &[u8]) {
     io::write_all(STDOUT_FILENO, s);

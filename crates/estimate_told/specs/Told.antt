@@ -3,8 +3,8 @@ use Prim.Native.Nat.{ℕ}
 use mathlib.Core.Bool.{cond}
 use Rattle.floats.specs.Number.{nought}
 use Rattle.measure.specs.Answer.{Answer, refused, given}
-use Rattle.stretches.specs.declared.spot.Way.{Way}
-use Rattle.stretches.specs.declared.spot.Way.the-variants.{With, Against}
+use Rattle.ways.specs.declared.way.Way.{Way}
+use Rattle.ways.specs.declared.way.Way.the-variants.{With, Against}
 use Rattle.paths.specs.declared.path.Line.{Line}
 use Rattle.paths.specs.declared.path.Line.the-variants.{Shape, Chain, Straight}
 use Rattle.legs.specs.declared.place.Place.{Place}

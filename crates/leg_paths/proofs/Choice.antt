@@ -12,8 +12,8 @@ use Rattle.ids.specs.declared.pool.Span.{Span}
 use Rattle.ids.specs.declared.lookup.Found.{Found}
 use Rattle.ids.specs.declared.lookup.Found.the-variants.{At, Nothing}
 use Rattle.lengths.specs.Line.{lineOf}
-use Rattle.by_distance.specs.declared.span.Span.{Span as Distances}
-use Rattle.by_distance.specs.declared.span.Spanned.the-variants.{Over, Short}
+use Rattle.spans.specs.declared.span.Span.{Span as Distances}
+use Rattle.spans.specs.declared.span.Spanned.the-variants.{Over, Short}
 use Rattle.stop_routes.specs.Routed.{routeBetween}
 use Rattle.trip_rows.specs.Rows.{shapeColumn}
 use Rattle.trip_samples.specs.declared.course.Course.{Course}

@@ -9,7 +9,7 @@ use Rattle.ids.specs.declared.lookup.Found.{Found}
 use Rattle.ids.specs.declared.lookup.Found.the-variants.{At, Nothing}
 use Rattle.lengths.specs.Line.{lineOf}
 use Rattle.lengths.specs.declared.line.Point.{Point}
-use Rattle.by_distance.specs.declared.span.Spanned.{Spanned}
+use Rattle.spans.specs.declared.span.Spanned.{Spanned}
 use Rattle.trip_rows.specs.Rows.{tripSpan, shapeColumn}
 use Rattle.trip_samples.specs.Trip.{tripAffine}
 use Rattle.trip_samples.specs.declared.course.Course.{Course}

@@ -2,7 +2,6 @@
 // else along the stops between.
 use crate::leg::leg_rows;
 use crate::leg::leg_span;
-use by_distance::Spanned;
 use chains::chain_route;
 use ids::Found;
 use lengths::vertices;
@@ -10,6 +9,7 @@ use paths::End;
 use paths::Path;
 use paths::feed_span;
 use seq_distances::seq_dist;
+use spans::Spanned;
 use stop_routes::Routed;
 use stop_routes::route_between;
 use trip_rows::shape_column;

@@ -16,12 +16,12 @@ use Rattle.unit_scales.specs.declared.metres.Calibrated.the-variants.{By, Nothi
 use Rattle.line_parts.specs.Part.{at, stretches, wholeOf}
 use Rattle.line_parts.specs.declared.part.Part.{Part}
 use Rattle.stretches.specs.declared.spot.Spot.the-variants.{Straight}
-use Rattle.stretches.specs.declared.spot.Way.{Way}
-use Rattle.stretches.specs.declared.spot.Way.the-variants.{With, Against}
-use Rattle.by_distance.specs.Span.{half, spread, spanOf, feedMetres}
-use Rattle.by_distance.specs.declared.span.Span.{Span}
-use Rattle.by_distance.specs.declared.span.Spanned.{Spanned}
-use Rattle.by_distance.specs.declared.span.Spanned.the-variants.{Over, Short}
+use Rattle.ways.specs.declared.way.Way.{Way}
+use Rattle.ways.specs.declared.way.Way.the-variants.{With, Against}
+use Rattle.spans.specs.Span.{half, spread, spanOf, feedMetres}
+use Rattle.spans.specs.declared.span.Span.{Span}
+use Rattle.spans.specs.declared.span.Spanned.{Spanned}
+use Rattle.spans.specs.declared.span.Spanned.the-variants.{Over, Short}
 use Rattle.nearest.specs.Nearest.{largest, degreesOf, nearestFrom, nearestOf}
 use Rattle.routes.specs.Route.{routeOf, alongOf}
 use Rattle.routes.specs.declared.route.Route.{Route}

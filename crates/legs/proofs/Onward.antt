@@ -16,8 +16,8 @@ use Rattle.line_parts.specs.Part.{stretches}
 use Rattle.line_parts.specs.declared.part.Part.{Part}
 use Rattle.stretches.specs.declared.spot.Spot.{Spot}
 use Rattle.stretches.specs.declared.spot.Spot.the-variants.{First, Stretch, Straight, NoStretch}
-use Rattle.stretches.specs.declared.spot.Way.{Way}
-use Rattle.stretches.specs.declared.spot.Way.the-variants.{With, Against}
+use Rattle.ways.specs.declared.way.Way.{Way}
+use Rattle.ways.specs.declared.way.Way.the-variants.{With, Against}
 use Rattle.along_order.specs.Order.{NoEarlier as Spot·noEarlier}
 use Rattle.along_order.proofs.Along.{Inside}
 use Rattle.paths.specs.Path.{pathKind, pathPart, pathWay, spotOf, pathOf}

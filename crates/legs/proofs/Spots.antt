@@ -11,15 +11,15 @@ use Rattle.floats.specs.Number.{nought, one}
 use Rattle.ieee.specs.Number.{clamp01Of}
 use Rattle.lengths.specs.declared.line.Point.{Point}
 use Rattle.line_parts.specs.Part.{stretches, lengthFrom, partLength, wholeOf}
-use Rattle.stretches.specs.Search.{micro, meets, fractionOf, firstMet, stretchAt}
-use Rattle.stretches.specs.Spot.{turnedOf}
+use Rattle.first_stretch.specs.Search.{micro, meets, fractionOf, firstMet, stretchAt}
+use Rattle.ways.specs.Way.{turnedOf}
 use Rattle.line_parts.specs.declared.part.Part.{Part}
 use Rattle.stretches.specs.declared.spot.Spot.{Spot}
 use Rattle.stretches.specs.declared.spot.Spot.the-variants.{First, Stretch, Straight, NoStretch}
-use Rattle.stretches.specs.declared.spot.Way.{Way}
-use Rattle.by_distance.specs.Span.{targetOf}
+use Rattle.ways.specs.declared.way.Way.{Way}
+use Rattle.spans.specs.Span.{targetOf}
 use Rattle.by_distance.specs.Interpolate.{spotOver}
-use Rattle.by_distance.specs.declared.span.Span.{Span}
+use Rattle.spans.specs.declared.span.Span.{Span}
 use Rattle.routes.specs.Route.{nano, routeOf, insideOf, alongOf}
 use Rattle.polylines.specs.Polyline.{spotAlong}
 use Rattle.along_order.proofs.Along.{Inside, inside-above}

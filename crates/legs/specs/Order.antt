@@ -4,9 +4,9 @@ use mathlib.Core.Path.{_≡_}
 use mathlib.Core.Logic.{_⊎_}
 use lib.Dec.{T}
 use lib.Ieee.{Float, le}
-use Rattle.stretches.specs.Spot.{turnedOf}
-use Rattle.stretches.specs.declared.spot.Way.{Way}
-use Rattle.stretches.specs.declared.spot.Way.the-variants.{With, Against}
+use Rattle.ways.specs.Way.{turnedOf}
+use Rattle.ways.specs.declared.way.Way.{Way}
+use Rattle.ways.specs.declared.way.Way.the-variants.{With, Against}
 use Rattle.paths.specs.declared.path.Line.{Line}
 use Rattle.legs.specs.declared.place.Place.{Place}
 use Rattle.legs.specs.declared.place.Place.the-variants.{Call, Start, End, Stretch, NoStretch}

@@ -7,8 +7,8 @@ use Rattle.stretches.specs.Drawing.{betweenOf}
 use Rattle.stretches.specs.declared.drawing.Drawn.{Drawn}
 use Rattle.stretches.specs.declared.spot.Spot.{Spot}
 use Rattle.stretches.specs.declared.spot.Spot.the-variants.{First, Stretch as Spot·stretch, Straight as Spot·straight, NoStretch as Spot·none}
-use Rattle.stretches.specs.declared.spot.Way.{Way}
-use Rattle.stretches.specs.declared.spot.Way.the-variants.{With}
+use Rattle.ways.specs.declared.way.Way.{Way}
+use Rattle.ways.specs.declared.way.Way.the-variants.{With}
 use Rattle.paths.specs.Path.{legLine, pathPart}
 use Rattle.paths.specs.declared.path.Path.{Path}
 use Rattle.paths.specs.declared.path.Line.{Line}

@@ -3,7 +3,7 @@ ghost use mathlib.Core.Path.{_≡_};
 ghost use Rattle.legs.specs.Place.{placeOf};
 use paths::Line;
 use stretches::Spot;
-use stretches::Way;
+use ways::Way;
 
 pub enum Place {
     // At this call.

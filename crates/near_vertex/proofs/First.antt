@@ -1,26 +1,17 @@
 -- The first vertex near a stop, by what the search for the least distance remembers. Assumes nothing.
 use Prim.Native.Nat.{ℕ, _+_, _-_, _<_}
 use native.Mathlib.Omega.{arith}
-use mathlib.Core.Path.{_≡_, refl, sym, _∙_}
-use mathlib.Core.Bool.{Bool, true, false}
+use mathlib.Core.Path.{_≡_, sym, _∙_}
 use mathlib.Core.List.{List}
-use lib.Dec.{T}
 use lib.Ieee.{le}
 use lib.ListN.{drop}
 use Rattle.ids.specs.declared.lookup.Found.the-variants.{At}
 use Rattle.lengths.specs.declared.line.Point.{Point}
-use Rattle.near_vertex.specs.Near.{distanceOf, distancesOf, firstWithin}
-use Rattle.near_vertex.specs.Nearest.{boundOf, Nears}
-use Rattle.near_vertex.specs.declared.nearest.Nearest.{Nearest}
-use Rattle.near_vertex.proofs.Search.{first-skip, first-hit}
-
-no : (b : Bool) → (T b → ⊥) → b ≡ false
-no true h = absurd (h tt)
-no false h = refl
-
-yes : (b : Bool) → T b → b ≡ true
-yes true h = refl
-yes false h = absurd h
+use Rattle.vertices_within.specs.Near.{distanceOf, distancesOf, firstWithin}
+use Rattle.distance_sweep.specs.Nearest.{boundOf, Nears}
+use Rattle.distance_sweep.specs.declared.nearest.Nearest.{Nearest}
+use Rattle.vertices_within.proofs.Truth.{no, yes}
+use Rattle.vertices_within.proofs.Search.{first-skip, first-hit}
 
 module _ (stop : Point) (line : List Point) (at : ℕ) (near : Nearest) (r : Nears stop line at near) where
   -- it is not before `from`

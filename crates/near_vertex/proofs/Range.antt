@@ -10,8 +10,8 @@ use Rattle.ids.specs.declared.lookup.Found.{Found}
 use Rattle.ids.specs.declared.lookup.Found.the-variants.{At, Nothing}
 use Rattle.ids.proofs.ByteOrder.{clash}
 use Rattle.lengths.specs.declared.line.Point.{Point}
-use Rattle.near_vertex.specs.Near.{distancesOf, firstWithin, lastWithin, startOf, orElse, orVertex}
-use Rattle.near_vertex.specs.Forward.{pickFrom, forwardShapeIndex, forwardLastIndex}
+use Rattle.vertices_within.specs.Near.{distancesOf, firstWithin, lastWithin, orElse}
+use Rattle.near_vertex.specs.Forward.{startOf, orVertex, pickFrom, forwardShapeIndex, forwardLastIndex}
 
 -- ---- what a search finds is among what it searches
 

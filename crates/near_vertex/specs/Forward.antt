@@ -1,11 +1,22 @@
 -- The vertex of a line that a stop lies at. Definitions only.
-use Prim.Native.Nat.{ℕ}
+use Prim.Native.Nat.{ℕ, _-_, min}
 use mathlib.Core.List.{List}
 use lib.Ieee.{Float, binary64, add}
-use lib.ListN.{drop}
+use lib.ListN.{length, drop}
 use Rattle.ids.specs.declared.lookup.Found.{Found}
+use Rattle.ids.specs.declared.lookup.Found.the-variants.{At, Nothing}
 use Rattle.lengths.specs.declared.line.Point.{Point}
-use Rattle.near_vertex.specs.Near.{slack, distancesOf, leastIn, firstWithin, lastWithin, startOf, orVertex}
+use Rattle.vertices_within.specs.Near.{distancesOf, leastIn, firstWithin, lastWithin}
+use Rattle.distance_sweep.specs.Nearest.{slack}
+
+-- the vertex that a search from `from` begins at: brought down to the last
+unfoldable pub startOf : List Point → ℕ → ℕ
+startOf line from = min from (length line - 1)
+
+-- the vertex found, or else the other
+abbrev pub orVertex : Found → ℕ → ℕ
+orVertex (At k) other = k
+orVertex Nothing other = other
 
 -- of the vertices from `at` on, the one that `pick` takes of those within the slack of the least distance
 abbrev pub nearOf : (Float → ℕ → List Float → Found) → List Point → ℕ → Point → Found

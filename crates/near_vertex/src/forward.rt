@@ -2,16 +2,16 @@
 // the first, or the last, that is no more than the slack farther than the nearest.
 ghost use mathlib.Core.Path.{_≡_};
 ghost use Rattle.lengths.specs.Line.{lineOf};
-ghost use Rattle.near_vertex.specs.Near.{firstWithin, lastWithin, orVertex, startOf};
-ghost use Rattle.near_vertex.specs.Forward.{forwardLastIndex, forwardShapeIndex, nearOf};
-use crate::least::least_from;
-use crate::near::first_within;
-use crate::near::last_within;
-use crate::nearest::Nearest;
-use crate::nearest::sweep;
+ghost use Rattle.vertices_within.specs.Near.{firstWithin, lastWithin};
+ghost use Rattle.near_vertex.specs.Forward.{orVertex, startOf, forwardLastIndex, forwardShapeIndex, nearOf};
+use distance_sweep::Nearest;
+use distance_sweep::sweep;
 use ids::Found;
+use least_distance::least_from;
 use lengths::Point;
 use lengths::vertices;
+use vertices_within::first_within;
+use vertices_within::last_within;
 
 // The vertex that a search from `from` begins at: brought down to the last, and 0 on a line without
 // vertices.

@@ -3,14 +3,11 @@
 // routing/geometry.rs. A line is lent as two columns, as in `lengths`. Nothing is required of the
 // values: a distance that is NaN is nowhere near, and a line without vertices answers 0.
 //
-// No distance is stored: one pass finds the least, and a second stops at the vertex asked for. A
-// vertex that is surely too far is passed over by `reach`, without its distance. The definitions
+// No distance is stored: one pass finds the least (`distance_sweep`, `least_distance`), and a second
+// stops at the vertex asked for (`vertices_within`). The definitions
 // that the contracts cite are in specs/. Laws that a caller cites are in proofs/Range: the vertex is
 // one of the line's, and not before the one that the search begins at.
 mod forward; // the first vertex, or the last, near a stop
-mod least; // the least distance from a stop, looked for from the line's end
-mod near; // the vertices that are no farther from a stop than a bound
-mod nearest; // the least distance from a stop
 
 pub use forward::forward_last_index;
 pub use forward::forward_shape_index;

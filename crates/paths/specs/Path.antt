@@ -11,12 +11,12 @@ use Rattle.line_parts.specs.Part.{wholeOf}
 use Rattle.line_parts.specs.declared.part.Part.{Part}
 use Rattle.stretches.specs.declared.spot.Spot.{Spot}
 use Rattle.stretches.specs.declared.spot.Spot.the-variants.{Straight as Spot·straight}
-use Rattle.stretches.specs.declared.spot.Way.{Way}
-use Rattle.stretches.specs.declared.spot.Way.the-variants.{With}
-use Rattle.by_distance.specs.Span.{spanOf, feedMetres}
+use Rattle.ways.specs.declared.way.Way.{Way}
+use Rattle.ways.specs.declared.way.Way.the-variants.{With}
+use Rattle.spans.specs.Span.{spanOf, feedMetres}
 use Rattle.by_distance.specs.Interpolate.{spotOver}
-use Rattle.by_distance.specs.declared.span.Spanned.{Spanned}
-use Rattle.by_distance.specs.declared.span.Spanned.the-variants.{Over, Short}
+use Rattle.spans.specs.declared.span.Spanned.{Spanned}
+use Rattle.spans.specs.declared.span.Spanned.the-variants.{Over, Short}
 use Rattle.routes.specs.Route.{routeOf, alongOf}
 use Rattle.polylines.specs.Polyline.{spotAlong}
 use Rattle.stop_routes.specs.Routed.{routeBetween}

@@ -2,14 +2,14 @@
 ghost use mathlib.Core.Path.{_≡_};
 ghost use Rattle.paths.specs.Path.{feedSpan, pathKind, pathStatus, pathWay};
 use crate::status::Status;
-use by_distance::Span;
-use by_distance::Spanned;
-use by_distance::feed_metres;
-use by_distance::span_of;
 use lengths::Point;
 use routes::Route;
-use stretches::Way;
+use spans::Span;
+use spans::Spanned;
+use spans::feed_metres;
+use spans::span_of;
 use unit_scales::Calibrated;
+use ways::Way;
 
 // An end of a leg: a call, or the static stop before the first call.
 pub struct End {

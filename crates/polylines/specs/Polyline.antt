@@ -3,10 +3,10 @@ use mathlib.Core.List.{List}
 use lib.Ieee.{Float}
 use Rattle.ieee.specs.Number.{clamp01Of}
 use Rattle.lengths.specs.declared.line.Point.{Point}
-use Rattle.stretches.specs.Spot.{turnedOf}
+use Rattle.ways.specs.Way.{turnedOf}
 use Rattle.stretches.specs.Drawing.{drawOf}
 use Rattle.stretches.specs.declared.spot.Spot.{Spot}
-use Rattle.stretches.specs.declared.spot.Way.{Way}
+use Rattle.ways.specs.declared.way.Way.{Way}
 use Rattle.stretches.specs.declared.drawing.Interpolated.{Interpolated}
 use Rattle.stretches.specs.declared.drawing.Interpolated.the-variants.{At, Nothing}
 use Rattle.routes.specs.declared.route.Route.{Route}

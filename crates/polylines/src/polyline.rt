@@ -10,9 +10,9 @@ use stop_routes::Routed;
 use stop_routes::route_between;
 use stretches::Interpolated;
 use stretches::Spot;
-use stretches::Way;
 use stretches::draw;
-use stretches::turned;
+use ways::Way;
+use ways::turned;
 
 // Where a route is at a fraction of it in sailing direction.
 pub fn spot_along(lat: &[f64], lon: &[f64], route: Route, way: Way, frac: f64) -> Spot

@@ -7,8 +7,7 @@ use lib.ListN.{length, getD}
 use Rattle.ids.specs.declared.lookup.Found.the-variants.{At, Nothing}
 use Rattle.ids.proofs.ByteOrder.{clash}
 use Rattle.lengths.specs.declared.line.Point.{Point}
-use Rattle.near_vertex.specs.Near.{startOf}
-use Rattle.near_vertex.specs.Forward.{forwardShapeIndex}
+use Rattle.near_vertex.specs.Forward.{startOf, forwardShapeIndex}
 use Rattle.near_vertex.proofs.Range.{first-from, first-most}
 use Rattle.projection.specs.Projection.{stepOf, passedOf, projectionFrom}
 use Rattle.projection.specs.declared.cursor.Cursor.{Cursor}

@@ -8,7 +8,7 @@ use Rattle.floats.specs.Number.{nought, one}
 use Rattle.maths.specs.Series.{whole}
 use Rattle.lengths.specs.declared.line.Point.{Point}
 use Rattle.line_parts.specs.Part.{partLength, wholeOf}
-use Rattle.stretches.specs.Search.{stretchAt}
+use Rattle.first_stretch.specs.Search.{stretchAt}
 use Rattle.stretches.specs.Drawing.{drawOf}
 use Rattle.line_parts.specs.declared.part.Part.{Part}
 use Rattle.stretches.specs.declared.spot.Spot.{Spot}

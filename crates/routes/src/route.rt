@@ -2,6 +2,7 @@
 ghost use mathlib.Core.Path.{_≡_};
 ghost use Rattle.lengths.specs.Line.{lineOf};
 ghost use Rattle.routes.specs.Route.{insideOf, alongOf, alongVertices, routeOf};
+use first_stretch::stretch_at;
 use lengths::vertices;
 use line_parts::Part;
 use line_parts::part_length;
@@ -9,7 +10,6 @@ use line_parts::whole;
 use stretches::Interpolated;
 use stretches::Spot;
 use stretches::draw;
-use stretches::stretch_at;
 
 // A part, and its length in metres.
 pub struct Route {

@@ -9,8 +9,8 @@ use Rattle.maths.specs.Series.{whole}
 use Rattle.lengths.specs.Line.{metresOf}
 use Rattle.lengths.specs.declared.line.Point.{Point}
 use Rattle.line_parts.specs.declared.part.Part.{Part}
-use Rattle.stretches.specs.declared.spot.Way.{Way}
-use Rattle.stretches.specs.declared.spot.Way.the-variants.{With, Against}
+use Rattle.ways.specs.declared.way.Way.{Way}
+use Rattle.ways.specs.declared.way.Way.the-variants.{With, Against}
 use Rattle.nearest.specs.Nearest.{nearestOf}
 use Rattle.routes.specs.Route.{routeOf}
 use Rattle.stop_routes.specs.declared.between.Routed.{Routed}

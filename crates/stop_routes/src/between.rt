@@ -9,7 +9,7 @@ use line_parts::Part;
 use nearest::nearest_idx;
 use routes::Route;
 use routes::route_of;
-use stretches::Way;
+use ways::Way;
 
 pub enum Routed {
     // This route, sailed this way.

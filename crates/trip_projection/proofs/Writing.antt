@@ -9,7 +9,7 @@ use Rattle.ids.specs.declared.lookup.Found.{Found}
 use Rattle.ids.specs.declared.lookup.Found.the-variants.{At, Nothing}
 use Rattle.ids.proofs.ByteOrder.{clash}
 use Rattle.lengths.specs.declared.line.Point.{Point}
-use Rattle.near_vertex.specs.Near.{orVertex}
+use Rattle.near_vertex.specs.Forward.{orVertex}
 use Rattle.projection.specs.Projection.{atStart, passedOf, projectionFrom, stepOf}
 use Rattle.projection.specs.declared.cursor.Cursor.{Cursor}
 use Rattle.projection.specs.declared.cursor.Passed.{Passed}

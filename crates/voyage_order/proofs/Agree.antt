@@ -10,7 +10,7 @@ use Rattle.floats.specs.Number.{nought, one}
 use Rattle.ids.proofs.ByteOrder.{clash}
 use Rattle.stretches.specs.declared.spot.Spot.{Spot}
 use Rattle.stretches.specs.declared.spot.Spot.the-variants.{First, Stretch, Straight, NoStretch}
-use Rattle.stretches.specs.declared.spot.Way.{Way}
+use Rattle.ways.specs.declared.way.Way.{Way}
 use Rattle.lengths.specs.declared.line.Point.{Point}
 use Rattle.paths.specs.Path.{spotOf}
 use Rattle.legs.specs.Place.{placeOf, coordinates}

@@ -7,9 +7,9 @@ use Rattle.lengths.specs.declared.line.Point.{Point}
 use Rattle.line_parts.specs.Part.{wholeOf}
 use Rattle.stretches.specs.Drawing.{drawOf}
 use Rattle.stretches.specs.declared.spot.Spot.the-variants.{Straight as Spot·straight}
-use Rattle.stretches.specs.declared.spot.Way.{Way}
+use Rattle.ways.specs.declared.way.Way.{Way}
 use Rattle.by_distance.specs.Interpolate.{spotOver}
-use Rattle.by_distance.specs.declared.span.Span.{Span}
+use Rattle.spans.specs.declared.span.Span.{Span}
 use Rattle.routes.specs.Route.{alongOf}
 use Rattle.routes.specs.declared.route.Route.{Route}
 use Rattle.polylines.specs.Polyline.{spotAlong}

@@ -1,5 +1,4 @@
 // The walk along a leg's path at a fraction of it.
-use by_distance::Span;
 use by_distance::spot_over;
 use chain_stretches::on_two;
 use chains::chain_walk;
@@ -16,11 +15,12 @@ use paths::End;
 use paths::Path;
 use polylines::spot_along;
 use routes::Route;
+use spans::Span;
 use stretches::Spot;
-use stretches::Way;
 use stretches::draw;
 use trip_rows::shape_column;
 use trip_samples::Course;
+use ways::Way;
 ghost use mathlib.Core.Path.{_≡_};
 ghost use Prim.Native.Nat.{_≤_};
 ghost use Rattle.lengths.specs.Line.{lineOf};

@@ -7,7 +7,7 @@ use lib.Ieee.{Float}
 use lib.ListN.{length}
 use Rattle.lengths.specs.declared.line.Point.{Point}
 use Rattle.stretches.specs.declared.drawing.Interpolated.the-variants.{Nothing}
-use Rattle.by_distance.specs.Span.{spanOf}
+use Rattle.spans.specs.Span.{spanOf}
 use Rattle.by_distance.specs.Interpolate.{drawnOver, byDist}
 use Rattle.by_distance.proofs.interpolate.interpolate_shape_by_dist.Statement.{statement}
 use Rattle.by_distance.proofs.interpolate.interpolate_shape_by_dist.Tie as tie

@@ -1,6 +1,6 @@
 -- `by_distance::interpolate::spot_over` meets its contract.
 use Rattle.by_distance.specs.Interpolate.{spotOver}
-use Rattle.stretches.proofs.Micro.{micro-is}
+use Rattle.first_stretch.proofs.Micro.{micro-is}
 use Rattle.by_distance.proofs.interpolate.spot_over.Statement.{statement}
 use Rattle.by_distance.proofs.interpolate.spot_over.Tie as tie
 

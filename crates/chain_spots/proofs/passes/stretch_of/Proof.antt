@@ -4,8 +4,8 @@ use native.Mathlib.Omega.{arith}
 use mathlib.Core.Path.{_≡_, refl, sym, ap, subst, _∙_}
 use lib.Ieee.{ofBits}
 use Rattle.line_parts.specs.Part.{lengthFrom}
-use Rattle.stretches.specs.Search.{firstMet, stretchAt}
-use Rattle.stretches.proofs.Turns.{over}
+use Rattle.first_stretch.specs.Search.{firstMet, stretchAt}
+use Rattle.first_stretch.proofs.Turns.{over}
 use Rattle.routes.specs.Route.{nano}
 use Rattle.chain_lines.specs.Chain.{stopOf, lineFrom}
 use Rattle.chain_vertices.specs.Vertices.{Stands}

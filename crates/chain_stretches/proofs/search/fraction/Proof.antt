@@ -1,5 +1,5 @@
 -- `chain_stretches::search::fraction` meets its contract.
-use Rattle.stretches.specs.Search.{fractionOf}
+use Rattle.first_stretch.specs.Search.{fractionOf}
 use Rattle.chain_stretches.proofs.Small.{micro-is}
 use Rattle.chain_stretches.proofs.search.fraction.Statement.{statement}
 use Rattle.chain_stretches.proofs.search.fraction.Tie as tie

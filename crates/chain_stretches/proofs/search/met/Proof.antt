@@ -1,5 +1,5 @@
 -- `chain_stretches::search::met` meets its contract.
-use Rattle.stretches.specs.Search.{meets}
+use Rattle.first_stretch.specs.Search.{meets}
 use Rattle.chain_stretches.proofs.Small.{nano-is}
 use Rattle.chain_stretches.proofs.search.met.Statement.{statement}
 use Rattle.chain_stretches.proofs.search.met.Tie as tie

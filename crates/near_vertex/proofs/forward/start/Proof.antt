@@ -1,6 +1,6 @@
 -- `near_vertex::forward::start` meets its contract.
 use native.Mathlib.Omega.{arith}
-use Rattle.near_vertex.specs.Near.{startOf}
+use Rattle.near_vertex.specs.Forward.{startOf}
 use Rattle.near_vertex.proofs.forward.start.Statement.{statement}
 use Rattle.near_vertex.proofs.forward.start.Tie as tie
 

@@ -4,7 +4,7 @@ use mathlib.Core.Path.{_≡_}
 use mathlib.Core.List.{List}
 use borrow.Author.Tests.{lt-ltb, le-ltb}
 use Rattle.lengths.specs.declared.line.Point.{Point}
-use Rattle.stretches.specs.declared.spot.Way.the-variants.{With, Against}
+use Rattle.ways.specs.declared.way.Way.the-variants.{With, Against}
 use Rattle.nearest.specs.Nearest.{nearestOf}
 use Rattle.stop_routes.specs.Routed.{routedOf, routeBetween}
 use Rattle.stop_routes.specs.declared.between.Routed.the-variants.{Nothing}

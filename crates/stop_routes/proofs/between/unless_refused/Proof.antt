@@ -6,7 +6,7 @@ use lib.Ieee.{lt, ofBits, ofInt}
 use Rattle.floats.specs.Number.{one}
 use Rattle.lengths.specs.declared.line.Point.{Point}
 use Rattle.line_parts.specs.declared.part.Part.{Part}
-use Rattle.stretches.specs.declared.spot.Way.{Way}
+use Rattle.ways.specs.declared.way.Way.{Way}
 use Rattle.routes.specs.Route.{routeOf}
 use Rattle.stop_routes.specs.Routed.{roundabout, routedOf}
 use Rattle.routes.specs.declared.route.Route.{Route}

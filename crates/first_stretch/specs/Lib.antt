@@ -1,0 +1,2 @@
+-- What the contracts cite. `Search`: the first stretch that a target meets.
+pub mod Search
