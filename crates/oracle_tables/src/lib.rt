@@ -5,6 +5,7 @@ ghost use Rattle.trip_samples.specs.Trip.{tripAffine};
 ghost use Rattle.oracle_line.specs.Asked.{isBy, scaleOr, startOr};
 ghost use Rattle.oracle_tables.specs.Asked.{courseOf, spanAt};
 use calibration::Calibrated;
+use courses::Course;
 use ids::IdColumn;
 use ids::Span;
 use tables::Points;
@@ -12,7 +13,6 @@ use tables::Shapes;
 use tables::StopTimes;
 use tables::Stops;
 use tables::Trips;
-use trip_samples::Course;
 
 // The column whose start is word i and whose count is the next.
 fn span(words: &[u32], i: u32) -> Span
