@@ -16,7 +16,7 @@ use Rattle.spans.specs.declared.span.Span.{Span as Distances}
 use Rattle.spans.specs.declared.span.Spanned.the-variants.{Over, Short}
 use Rattle.stop_routes.specs.Routed.{routeBetween}
 use Rattle.trip_rows.specs.Rows.{shapeColumn}
-use Rattle.trip_samples.specs.declared.course.Course.{Course}
+use Rattle.courses.specs.declared.course.Course.{Course}
 use Rattle.chain_rows.specs.Rows.{spanned, legChain}
 use Rattle.chain_rows.specs.declared.chain.Chain.{Chain}
 use Rattle.paths.specs.Path.{overChain, overRoute, overSpan, pathOf}

@@ -8,7 +8,7 @@ use lib.ListN.{length}
 use Rattle.ids.specs.declared.lookup.Found.{Found}
 use Rattle.ids.specs.declared.lookup.Found.the-variants.{At, Nothing}
 use Rattle.trip_samples.specs.Trip.{tripAffine}
-use Rattle.trip_samples.specs.declared.course.Course.{Course}
+use Rattle.courses.specs.declared.course.Course.{Course}
 use Rattle.chain_lines.specs.Chain.{stopOf}
 use Rattle.chain_lines.proofs.Line.{two-or-more, rows-and-two, starts-at, ends-at}
 use Rattle.legs.specs.Granted.{Chained}

@@ -12,7 +12,7 @@ use Rattle.lengths.specs.declared.line.Point.{Point}
 use Rattle.spans.specs.declared.span.Spanned.{Spanned}
 use Rattle.trip_rows.specs.Rows.{tripSpan, shapeColumn}
 use Rattle.trip_samples.specs.Trip.{tripAffine}
-use Rattle.trip_samples.specs.declared.course.Course.{Course}
+use Rattle.courses.specs.declared.course.Course.{Course}
 use Rattle.chain_rows.specs.Rows.{legChain}
 use Rattle.chain_lines.specs.Chain.{chainLine}
 use Rattle.chain_rows.specs.declared.chain.Chain.{Chain}

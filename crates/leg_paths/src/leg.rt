@@ -1,11 +1,11 @@
 // The shape and the chain of a leg. A leg of no trip has no shape, and no stop between its ends.
 use chain_rows::Chain;
 use chain_rows::chain_of;
+use courses::Course;
 use ids::Found;
 use ids::Span;
 use paths::End;
 use trip_rows::trip_span;
-use trip_samples::Course;
 ghost use mathlib.Core.Path.{_≡_};
 ghost use Rattle.leg_paths.specs.Leg.{legSpan, legRows};
 

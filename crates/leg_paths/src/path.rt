@@ -3,6 +3,7 @@
 use crate::leg::leg_rows;
 use crate::leg::leg_span;
 use chains::chain_route;
+use courses::Course;
 use ids::Found;
 use lengths::vertices;
 use paths::End;
@@ -13,7 +14,6 @@ use spans::Spanned;
 use stop_routes::Routed;
 use stop_routes::route_between;
 use trip_rows::shape_column;
-use trip_samples::Course;
 use trip_samples::trip_shape_dist_affine;
 ghost use mathlib.Core.Path.{_≡_};
 ghost use Prim.Native.Nat.{_≤_};

@@ -4,6 +4,7 @@ ghost use mathlib.Core.Path.{_≡_};
 ghost use Rattle.trip_samples.specs.Trip.{tripAffine};
 ghost use Rattle.oracle_line.specs.Asked.{isBy, scaleOr, startOr};
 ghost use Rattle.oracle_tables.specs.Asked.{courseOf, spanAt};
+use courses::Course;
 use ids::IdColumn;
 use ids::Span;
 use tables::Points;
@@ -11,7 +12,6 @@ use tables::Shapes;
 use tables::StopTimes;
 use tables::Stops;
 use tables::Trips;
-use trip_samples::Course;
 use unit_scales::Calibrated;
 
 // The column whose start is word i and whose count is the next.

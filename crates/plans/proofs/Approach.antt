@@ -8,7 +8,7 @@ use Rattle.ids.specs.declared.lookup.Found.{Found}
 use Rattle.ids.specs.declared.lookup.Found.the-variants.{At}
 use Rattle.tables.specs.Pools.{Pools}
 use Rattle.tables.specs.declared.lent.Tables.{Tables}
-use Rattle.previous.specs.Run.{runOf}
+use Rattle.scheduled_runs.specs.Run.{runOf}
 use Rattle.timeline.specs.Turn.{timeAt}
 use Rattle.fractions.specs.Fraction.{approachFraction, legFraction}
 use Rattle.paths.specs.declared.path.End.{End}

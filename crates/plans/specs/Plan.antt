@@ -10,12 +10,12 @@ use Rattle.lengths.specs.declared.line.Point.{Point}
 use Rattle.tables.specs.Pools.{Pools}
 use Rattle.tables.specs.declared.lent.Tables.{Tables}
 use Rattle.trip_rows.specs.Rows.{stopPoint}
-use Rattle.trip_samples.specs.declared.course.Course.{Course}
+use Rattle.courses.specs.declared.course.Course.{Course}
 use Rattle.calls.specs.Calls.{reportedOf, updateStop, callRows, callStops, callArrivals, callDepartures}
 use Rattle.best_rows.specs.Serving.{bestRow}
 use Rattle.sailings.specs.Sailing.{isCancelled, sailingTrip}
 use Rattle.previous.specs.Before.{prevRow}
-use Rattle.previous.specs.Run.{runOf}
+use Rattle.scheduled_runs.specs.Run.{runOf}
 use Rattle.paths.specs.declared.path.End.{End}
 use Rattle.leg_paths.specs.Leg.{legShape, legStops, legPath}
 use Rattle.voyages.specs.Voyage.{Leg, Approach, none, over, Pin, unplaced, pinned, Voyage}

@@ -1,10 +1,10 @@
 // On a leg: from an end to another, along the path of the static trip.
+use courses::Course;
 use ids::Found;
 use leg_paths::path_of;
 use legs::Walked;
 use paths::End;
 use tables::Tables;
-use trip_samples::Course;
 use walks::walk;
 ghost use mathlib.Core.Path.{_≡_};
 ghost use Prim.Native.Nat.{_≤_};

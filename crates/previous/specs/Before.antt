@@ -8,7 +8,7 @@ use Rattle.ids.specs.declared.lookup.Found.the-variants.{At, Nothing}
 use Rattle.tables.specs.declared.lent.StopTimes.{StopTimes}
 use Rattle.tables.specs.declared.lent.Stops.{Stops}
 use Rattle.tables.specs.declared.lent.Trips.{Trips}
-use Rattle.previous.specs.Rows.{firstRow, lastRow, isPlaced, placedTarget, isFrom}
+use Rattle.row_tests.specs.Rows.{firstRow, lastRow, isPlaced, placedTarget, isFrom}
 
 -- the row found, or else this one
 abbrev pub orRow : Found → ℕ → ℕ

@@ -1,4 +1,2 @@
--- What the contracts cite. `Rows`: tests of rows, and the first and the last row that passes one. `Before`: the row before a call. `Run`: the scheduled run.
-pub mod Rows
+-- What the contracts cite. `Before`: the row before a call.
 pub mod Before
-pub mod Run

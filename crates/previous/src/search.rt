@@ -1,14 +1,13 @@
 // The first and the last of a trip's rows that passes a test: a loop for each test, upwards from the row `from`, or downwards from the row `end`.
-use crate::row::from_sequence;
-use crate::row::placed;
-use crate::row::placed_target;
-use crate::row::with_sequence;
 use ids::Found;
+use row_tests::from_sequence;
+use row_tests::placed;
+use row_tests::placed_target;
 use tables::StopTimes;
 use tables::Stops;
 ghost use mathlib.Core.Path.{_≡_};
 ghost use Prim.Native.Nat.{_-_};
-ghost use Rattle.previous.specs.Rows.{firstRow, lastRow, isPlaced, placedTarget, isFrom, hasSequence};
+ghost use Rattle.row_tests.specs.Rows.{firstRow, lastRow, isPlaced, placedTarget, isFrom};
 
 // The first of n rows that is the call, and positioned.
 pub fn first_target(
@@ -67,21 +66,6 @@ pub fn last_placed(
     while start < row {
         row -= 1;
         if placed(bytes, words, times, stops, row) {
-            return Found::At(row);
-        }
-    }
-    Found::Nothing
-}
-
-// The last row before `end` with the sequence.
-pub fn last_with(words: &[u32], times: StopTimes, sequence: u32, from: u32, end: usize) -> Found
-    ensures { λ r. ⌜ r ≡ lastRow (hasSequence (now (words .entry)) times sequence) from (end - from) ⌝ }
-{
-    let start = from as usize;
-    let mut row = end;
-    while start < row {
-        row -= 1;
-        if with_sequence(words, times, sequence, row) {
             return Found::At(row);
         }
     }

@@ -10,8 +10,8 @@ use Rattle.ids.specs.declared.pool.Span.{Span}
 use Rattle.ids.specs.declared.lookup.Found.{Found}
 use Rattle.ids.specs.declared.lookup.Found.the-variants.{At as Row, Nothing as NoRow}
 use Rattle.trip_rows.specs.Rows.{realOf}
-use Rattle.trip_samples.specs.Course.{isFlagged, rowAfter}
-use Rattle.trip_samples.specs.declared.course.Course.{Course}
+use Rattle.courses.specs.Course.{isFlagged, rowAfter}
+use Rattle.courses.specs.declared.course.Course.{Course}
 use Rattle.paths.specs.declared.path.Mark.{Mark}
 use Rattle.paths.specs.declared.path.Mark.the-variants.{At, Nothing}
 

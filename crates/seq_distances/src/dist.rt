@@ -1,14 +1,14 @@
 // The distance that the timetable has for a sequence: that of the first row of the trip with it, if it has one.
+use courses::Course;
+use courses::flagged;
 use ids::Found;
 use ids::Span;
 use ids::cell;
 use paths::Mark;
-use trip_samples::Course;
-use trip_samples::flagged;
 ghost use mathlib.Core.Path.{_≡_};
 ghost use Rattle.ids.specs.First.{first};
 ghost use Rattle.trip_rows.specs.Rows.{realOf};
-ghost use Rattle.trip_samples.specs.Course.{rowAfter};
+ghost use Rattle.courses.specs.Course.{rowAfter};
 ghost use Rattle.seq_distances.specs.Dist.{hasSequence, rowDist, seqDist};
 
 // Row k of a column of distances, or NaN past the pool's end.

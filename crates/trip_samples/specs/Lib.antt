@@ -1,3 +1,2 @@
--- What the contracts cite. `Course`: a shape's line, stops' positions, and rows that are samples. `Trip`: the metres that a trip's distances stand for.
-pub mod Course
+-- What the contracts cite. `Trip`: the sample that a row is, and the metres that a trip's distances stand for.
 pub mod Trip

@@ -9,11 +9,18 @@ use Rattle.ids.specs.declared.lookup.Found.{Found}
 use Rattle.ids.specs.declared.lookup.Found.the-variants.{At, Nothing as NoRow}
 use Rattle.lengths.specs.Line.{lineOf}
 use Rattle.lengths.specs.declared.line.Point.{Point}
+use Rattle.trip_rows.specs.Rows.{realOf, stopPoint}
 use Rattle.calibration.specs.Affine.{shapeDistAffine}
+-- the sample that row k is
+unfoldable pub sampleAt : List ℕ → List Float → List Float → Course → ℕ → Sample
+sampleAt words reals dists c k = record { at = stopPoint reals (c .stops) (cellOf words (c .times .stop) k); dist = realOf dists (c .times .dist) k }
+use Rattle.calibration.specs.declared.affine.Sample.{Sample}
+use Rattle.courses.specs.Course.{isFlagged, rowAfter, shapePart}
+use Rattle.sample_rows.specs.Samples.{sampleFrom}
+use Rattle.courses.specs.declared.course.Course.{Course}
+
 use Rattle.unit_scales.specs.declared.metres.Calibrated.{Calibrated}
 use Rattle.unit_scales.specs.declared.metres.Calibrated.the-variants.{Nothing}
-use Rattle.trip_samples.specs.Course.{isFlagged, rowAfter, sampleAt, sampleFrom, shapePart}
-use Rattle.trip_samples.specs.declared.course.Course.{Course}
 
 -- the line of a shape
 abbrev pub shapeLine : List ℕ → List Float → Course → ℕ → List Point

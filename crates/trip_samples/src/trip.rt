@@ -1,13 +1,13 @@
 // The metres along its line that a trip's distances stand for.
-use crate::course::Course;
-use crate::course::shape_lat;
-use crate::course::shape_lon;
-use crate::row::first_sample;
-use crate::row::flagged;
-use crate::row::last_sample;
 use crate::row::sample;
 use calibration::shape_dist_affine;
+use courses::Course;
+use courses::flagged;
+use courses::shape_lat;
+use courses::shape_lon;
 use ids::Found;
+use sample_rows::first_sample;
+use sample_rows::last_sample;
 use unit_scales::Calibrated;
 ghost use mathlib.Core.Path.{_≡_};
 ghost use Rattle.trip_samples.specs.Trip.{rowsAffine, tripAffine};

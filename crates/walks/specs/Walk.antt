@@ -13,7 +13,7 @@ use Rattle.spans.specs.declared.span.Span.{Span}
 use Rattle.routes.specs.Route.{alongOf}
 use Rattle.routes.specs.declared.route.Route.{Route}
 use Rattle.polylines.specs.Polyline.{spotAlong}
-use Rattle.trip_samples.specs.declared.course.Course.{Course}
+use Rattle.courses.specs.declared.course.Course.{Course}
 use Rattle.chain_stretches.specs.Two.{two}
 use Rattle.legs.specs.Walk.{onPath, walkOf}
 use Rattle.paths.specs.declared.path.End.{End}

@@ -2,6 +2,7 @@
 use by_distance::spot_over;
 use chain_stretches::on_two;
 use chains::chain_walk;
+use courses::Course;
 use ids::Found;
 use leg_paths::leg_rows;
 use leg_paths::leg_span;
@@ -19,7 +20,6 @@ use spans::Span;
 use stretches::Spot;
 use stretches::draw;
 use trip_rows::shape_column;
-use trip_samples::Course;
 use ways::Way;
 ghost use mathlib.Core.Path.{_≡_};
 ghost use Prim.Native.Nat.{_≤_};

@@ -5,8 +5,8 @@ use native.Mathlib.Omega.{arith}
 use mathlib.Core.Bool.{false}
 use mathlib.Core.Path.{_≡_, ap, sym, _∙_}
 use Rattle.ids.proofs.Search.{first-hit, first-miss}
-use Rattle.trip_samples.specs.Course.{rowAfter}
-use Rattle.previous.specs.Rows.{after, isFrom}
+use Rattle.courses.specs.Course.{rowAfter}
+use Rattle.row_tests.specs.Rows.{after, isFrom}
 use Rattle.previous.proofs.search.first_from.Statement.{statement}
 use Rattle.previous.proofs.search.first_from.Tie as tie
 

@@ -2,8 +2,8 @@
 use Prim.Native.Nat.{_-_, _≤_}
 use native.Mathlib.Omega.{arith}
 use mathlib.Core.Path.{_≡_, refl, sym, _∙_}
-use Rattle.previous.specs.Rows.{lastRow, isPlaced}
-use Rattle.previous.proofs.Rows.{row-hit, row-skip, row-miss}
+use Rattle.row_tests.specs.Rows.{lastRow, isPlaced}
+use Rattle.row_tests.proofs.Rows.{row-hit, row-skip, row-miss}
 use Rattle.previous.proofs.search.last_placed.Statement.{statement}
 use Rattle.previous.proofs.search.last_placed.Tie as tie
 

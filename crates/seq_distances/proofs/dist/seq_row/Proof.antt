@@ -6,7 +6,7 @@ use native.Mathlib.Omega.{arith}
 use mathlib.Core.Bool.{false}
 use mathlib.Core.Path.{_≡_, ap, sym, _∙_}
 use Rattle.ids.proofs.Search.{first-hit, first-miss}
-use Rattle.trip_samples.specs.Course.{rowAfter}
+use Rattle.courses.specs.Course.{rowAfter}
 use Rattle.seq_distances.specs.Dist.{hasSequence}
 use Rattle.seq_distances.proofs.dist.seq_row.Statement.{statement}
 use Rattle.seq_distances.proofs.dist.seq_row.Tie as tie

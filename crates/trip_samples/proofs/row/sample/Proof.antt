@@ -1,6 +1,6 @@
 -- `trip_samples::row::sample` meets its contract.
 use borrow.Author.Needs.{needs}
-use Rattle.trip_samples.specs.Course.{sampleAt}
+use Rattle.trip_samples.specs.Trip.{sampleAt}
 use Rattle.trip_samples.proofs.row.sample.Statement.{statement}
 use Rattle.trip_samples.proofs.row.sample.Tie as tie
 

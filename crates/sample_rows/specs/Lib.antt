@@ -1,0 +1,2 @@
+-- What the contracts cite. `Samples`: the rows that are samples.
+pub mod Samples

@@ -1,0 +1,2 @@
+-- What the contracts cite. `Run`: the scheduled run.
+pub mod Run
