@@ -6,7 +6,7 @@ use mathlib.Core.Path.{_≡_, _∙_, sym}
 use lib.Ieee.{nan}
 use Rattle.trip_rows.specs.Rows.{rowPosition}
 use Rattle.trip_projection.specs.Vertices.{positionsFrom}
-use Rattle.backfill.specs.Rows.{rowsOf}
+use Rattle.row_distances.specs.Rows.{rowsOf}
 use Rattle.backfill.specs.Samples.{endsOf, samplesIn}
 use Rattle.backfill.proofs.Telling.{added, from-none, one-more, no-more}
 use Rattle.backfill.proofs.ends.ends_of.Statement.{statement}

@@ -1,8 +1,8 @@
 use borrow.Author.Needs.{needs}
 use lib.Ieee.{div}
-use Rattle.backfill.specs.Rows.{inFeed}
-use Rattle.backfill.proofs.row.in_feed.Statement.{statement}
-use Rattle.backfill.proofs.row.in_feed.Tie as tie
+use Rattle.row_distances.specs.Rows.{inFeed}
+use Rattle.row_distances.proofs.row.in_feed.Statement.{statement}
+use Rattle.row_distances.proofs.row.in_feed.Tie as tie
 
 returns : tie.Need-returns
 unfolding div inFeed

@@ -1,13 +1,10 @@
--- What is written into a row, by the unit and by the stop. Assumes nothing.
+-- A stop and its row: what is walked to, and what is written. Assumes nothing.
 use Prim.Native.Nat.{ℕ, _<_, _≤_}
 use native.Mathlib.Omega.{arith}
 use mathlib.Core.Path.{_≡_}
 use mathlib.Core.List.{List}
-use borrow.Author.Tests.{eq-eqb, ne-eqb}
 use lib.Ieee.{Float}
 use lib.ListN.{length}
-use Rattle.ieee.specs.Single.{narrowOf}
-use Rattle.calibration.specs.declared.affine.Affine.{Affine}
 use Rattle.lengths.specs.Length.{lengthTo}
 use Rattle.lengths.specs.declared.line.Point.{Point}
 use Rattle.near_vertex.specs.Near.{startOf}
@@ -16,31 +13,11 @@ use Rattle.projection.specs.declared.cursor.Position.{Position}
 use Rattle.projection.specs.declared.cursor.Position.the-variants.{Known, Missing}
 use Rattle.projection.specs.declared.cursor.Step.{Step}
 use Rattle.near_vertex.proofs.Range.{first-from, first-most}
-use Rattle.backfill.specs.Rows.{inFeed, filledBy}
-use Rattle.backfill.specs.Walk.{walkedOf}
-use Rattle.backfill.specs.declared.row.Distance.{Distance}
-use Rattle.backfill.specs.declared.row.Unit.{Unit}
-use Rattle.backfill.specs.declared.row.Unit.the-variants.{Metres, Feed, Unknown}
-use Rattle.backfill.specs.declared.walk.Walked.{Walked}
-
--- a row that has a distance keeps it
-pub kept : (unit : Unit) (m : Float) (row : Distance) → (row .measured ≡ 0 → ⊥) → filledBy unit m row ≡ row
-unfolding filledBy
-kept unit m row h = rw (ne-eqb _ _ h)
-
--- one that has none, by the unit
-module _ {unit : Unit} (m : Float) (row : Distance) (h : row .measured ≡ 0) where
-  pub in-metres : unit ≡ Metres → {d : Float} → d ≡ narrowOf m → _≡_ {A = Distance} (record { dist = d; measured = 1 }) (filledBy unit m row)
-  unfolding filledBy
-  in-metres e q = rw (e, eq-eqb _ _ h, q)
-
-  pub in-its-own : {k : Affine} → unit ≡ Feed k → {x d : Float} → x ≡ inFeed k m → d ≡ narrowOf x → _≡_ {A = Distance} (record { dist = d; measured = 1 }) (filledBy unit m row)
-  unfolding filledBy
-  in-its-own e i q = rw (e, eq-eqb _ _ h, q, i)
-
-  pub not-told : unit ≡ Unknown → row ≡ filledBy unit m row
-  unfolding filledBy
-  not-told e = rw (e, eq-eqb _ _ h)
+use Rattle.row_distances.specs.Rows.{filledBy}
+use Rattle.filled_rows.specs.Walk.{walkedOf}
+use Rattle.row_distances.specs.declared.row.Distance.{Distance}
+use Rattle.row_distances.specs.declared.row.Unit.{Unit}
+use Rattle.filled_rows.specs.declared.walk.Walked.{Walked}
 
 -- a stop's vertex is on the line, and not before the cursor
 module _ (line : List Point) (at : ℕ) (stop : Point) (h : at < length line) {s : Step} (e : s ≡ stepOf line (record { at = at }) stop) where

@@ -1,8 +1,8 @@
 use borrow.Author.Needs.{needs}
 use mathlib.Core.Path.{sym}
-use Rattle.backfill.proofs.Written.{kept, in-metres, in-its-own, not-told}
-use Rattle.backfill.proofs.row.filled.Statement.{statement}
-use Rattle.backfill.proofs.row.filled.Tie as tie
+use Rattle.row_distances.proofs.Written.{kept, in-metres, in-its-own, not-told}
+use Rattle.row_distances.proofs.row.filled.Statement.{statement}
+use Rattle.row_distances.proofs.row.filled.Tie as tie
 
 returns : tie.Need-returns
 returns c = sym (kept _ _ (c .before .before .args .row) (c .if1 .taken))

@@ -2,7 +2,7 @@
 use calibration::Affine;
 use ieee::narrow;
 ghost use mathlib.Core.Path.{_≡_};
-ghost use Rattle.backfill.specs.Rows.{inFeed, filledBy};
+ghost use Rattle.row_distances.specs.Rows.{inFeed, filledBy};
 
 // A distance, and a byte that is not zero where there is one.
 pub struct Distance {
@@ -27,7 +27,7 @@ fn in_feed(k: Affine, m: f64) -> f64
 }
 
 // A row whose stop is m metres along the line.
-pub(crate) fn filled(unit: Unit, m: f64, row: Distance) -> Distance
+pub fn filled(unit: Unit, m: f64, row: Distance) -> Distance
     ensures { λ r. ⌜ r ≡ filledBy unit m row ⌝ }
 {
     if row.measured != 0 {

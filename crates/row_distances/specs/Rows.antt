@@ -6,9 +6,9 @@ use lib.Dec.{eqb}
 use lib.Ieee.{Float, binary64, sub, div}
 use Rattle.ieee.specs.Single.{narrowOf}
 use Rattle.calibration.specs.declared.affine.Affine.{Affine}
-use Rattle.backfill.specs.declared.row.Distance.{Distance}
-use Rattle.backfill.specs.declared.row.Unit.{Unit}
-use Rattle.backfill.specs.declared.row.Unit.the-variants.{Metres, Feed, Unknown}
+use Rattle.row_distances.specs.declared.row.Distance.{Distance}
+use Rattle.row_distances.specs.declared.row.Unit.{Unit}
+use Rattle.row_distances.specs.declared.row.Unit.the-variants.{Metres, Feed, Unknown}
 
 -- the rows of two columns, as many as both have
 unfoldable pub rowsOf : List Float → List ℕ → List Distance

@@ -1,6 +1,6 @@
--- A stop and its row, taken on the way along the line. Definitions only.
+-- Stops and their rows, taken on the way along the line. Definitions only.
 use Prim.Native.Nat.{ℕ}
-use mathlib.Core.List.{List}
+use mathlib.Core.List.{List, [], _∷_}
 use Rattle.ids.specs.declared.lookup.Found.{Found}
 use Rattle.ids.specs.declared.lookup.Found.the-variants.{At, Nothing}
 use Rattle.lengths.specs.Length.{lengthTo}
@@ -8,10 +8,10 @@ use Rattle.lengths.specs.declared.line.Point.{Point}
 use Rattle.projection.specs.Projection.{passedOf}
 use Rattle.projection.specs.declared.cursor.Passed.{Passed}
 use Rattle.projection.specs.declared.cursor.Position.{Position}
-use Rattle.backfill.specs.Rows.{filledBy}
-use Rattle.backfill.specs.declared.row.Distance.{Distance}
-use Rattle.backfill.specs.declared.row.Unit.{Unit}
-use Rattle.backfill.specs.declared.walk.Walked.{Walked}
+use Rattle.row_distances.specs.Rows.{filledBy}
+use Rattle.row_distances.specs.declared.row.Distance.{Distance}
+use Rattle.row_distances.specs.declared.row.Unit.{Unit}
+use Rattle.filled_rows.specs.declared.walk.Walked.{Walked}
 
 -- the row of a stop that lies at a vertex, by the length along the line to there; a stop without a vertex leaves it as it is
 abbrev pub filledAt : List Point → Unit → Found → Distance → Distance
@@ -24,3 +24,9 @@ walked line unit p row = record { at = p .cursor .at; sum = lengthTo line (p .cu
 -- where the cursor is after a stop, the length to there, and the stop's row
 unfoldable pub walkedOf : List Point → Unit → ℕ → Position → Distance → Walked
 walkedOf line unit at stop row = walked line unit (passedOf line (record { at = at }) stop) row
+
+-- each row by its stop's vertex
+unfoldable pub fillAll : List Point → Unit → List Found → List Distance → List Distance
+fillAll line unit [] rows = rows
+fillAll line unit (f ∷ fs) [] = []
+fillAll line unit (f ∷ fs) (row ∷ rows) = filledAt line unit f row ∷ fillAll line unit fs rows

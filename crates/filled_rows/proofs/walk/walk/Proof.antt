@@ -1,8 +1,8 @@
 use borrow.Author.Needs.{needs}
 use Rattle.lengths.specs.Line.{lineOf}
-use Rattle.backfill.proofs.Written.{unplaced, placed, not-before, on-it}
-use Rattle.backfill.proofs.walk.walk.Statement.{statement}
-use Rattle.backfill.proofs.walk.walk.Tie as tie
+use Rattle.filled_rows.proofs.Placed.{unplaced, placed, not-before, on-it}
+use Rattle.filled_rows.proofs.walk.walk.Statement.{statement}
+use Rattle.filled_rows.proofs.walk.walk.Tie as tie
 
 enum-known-stop : tie.Need-enum-known-stop
 enum-known-stop c = search needs

@@ -5,8 +5,8 @@ use mathlib.Core.Path.{_≡_, sym, ap, _∙_}
 use Rattle.lengths.specs.Line.{lineOf}
 use Rattle.lengths.specs.Length.{lengthTo}
 use Rattle.lengths.proofs.Running.{next-length}
-use Rattle.backfill.proofs.walk.length_on.Statement.{statement}
-use Rattle.backfill.proofs.walk.length_on.Tie as tie
+use Rattle.filled_rows.proofs.walk.length_on.Statement.{statement}
+use Rattle.filled_rows.proofs.walk.length_on.Tie as tie
 
 abbrev Inv-loop : tie.InvT-loop
 Inv-loop lat lon from sum to m₀ k₀ m k = (k ≤ to) × (m ≡ lengthTo (lineOf lat lon) k)

@@ -1,17 +1,17 @@
 // From stop to stop along the line, with the length to there.
-use crate::row::Distance;
-use crate::row::Unit;
-use crate::row::filled;
 use lengths::metres;
 use lengths::vertex;
 use projection::Cursor;
 use projection::Position;
+use row_distances::Distance;
+use row_distances::Unit;
+use row_distances::filled;
 ghost use mathlib.Core.Path.{_≡_};
 ghost use Prim.Native.Nat.{_≤_, _<_};
 ghost use lib.ListN.{length};
 ghost use Rattle.lengths.specs.Line.{lineOf};
 ghost use Rattle.lengths.specs.Length.{lengthTo};
-ghost use Rattle.backfill.specs.Walk.{walkedOf};
+ghost use Rattle.filled_rows.specs.Walk.{walkedOf};
 
 // The length along a line to a vertex, from that to an earlier one.
 fn length_on(lat: &[f64], lon: &[f64], from: usize, sum: f64, to: usize) -> f64

@@ -1,4 +1,4 @@
--- `backfill::rows::fill` meets its contract. The loop's invariant: what is written so far, and the rest filled from the cursor on, are all rows filled.
+-- `filled_rows::each::fill` meets its contract. The loop's invariant: what is written so far, and the rest filled from the cursor on, are all rows filled.
 use borrow.Author.Needs.{needs}
 use Prim.Native.Nat.{_-_}
 use native.Mathlib.Omega.{arith}
@@ -6,9 +6,9 @@ use mathlib.Core.Path.{refl}
 use lib.Ieee.{nan, ofBits}
 use Rattle.lengths.specs.Line.{lineOf}
 use Rattle.trip_rows.specs.Rows.{rowPosition}
-use Rattle.backfill.proofs.Filling.{Filled, starts, goes-on, ends}
-use Rattle.backfill.proofs.rows.fill.Statement.{statement}
-use Rattle.backfill.proofs.rows.fill.Tie as tie
+use Rattle.filled_rows.proofs.Walking.{Filled, starts, goes-on, ends}
+use Rattle.filled_rows.proofs.each.fill.Statement.{statement}
+use Rattle.filled_rows.proofs.each.fill.Tie as tie
 
 abbrev Inv-loop : tie.InvT-loop
 Inv-loop bytes words reals stops calls lat lon unit first n dist₀ measured₀ from rows at₀ sum₀ k₀ dist measured at sum k =

@@ -1,15 +1,12 @@
 -- Rows and their columns. Assumes nothing.
-use Prim.Native.Nat.{ℕ, zero, suc, _+_, _<_, _≤_, min}
+use Prim.Native.Nat.{ℕ, zero, suc, _<_, min}
 use native.Mathlib.Omega.{arith}
 use mathlib.Core.Path.{_≡_, refl, ap}
-use mathlib.Core.Bool.{Bool, true, false}
 use mathlib.Core.List.{List, [], _∷_, _++_, map}
 use lib.ListN.{length, length-map, take, drop, getD, set}
-use lib.Seq.{drop-cons}
 use lib.Ieee.{Float}
-use Rattle.backfill.specs.Rows.{rowsOf, distOf, markOf, distsIn, marksIn}
-use Rattle.backfill.specs.Trip.{anyOf}
-use Rattle.backfill.specs.declared.row.Distance.{Distance}
+use Rattle.row_distances.specs.Rows.{rowsOf, distOf, markOf, distsIn, marksIn}
+use Rattle.row_distances.specs.declared.row.Distance.{Distance}
 
 -- columns of one length are those of their rows
 pub rows-count : (ds : List Float) (ms : List ℕ) → length ds ≡ length ms → length (rowsOf ds ms) ≡ length ds
@@ -47,23 +44,6 @@ rows-from [] ms k x h l = absurd (omega arith)
 rows-from (d ∷ ds) [] k x h l = absurd (omega arith)
 rows-from (d ∷ ds) (m ∷ ms) zero x h l = refl
 rows-from (d ∷ ds) (m ∷ ms) (suc k) x h l = rows-from ds ms k x (omega arith) (omega arith)
-
--- a search among flags
-module _ (p : ℕ → Bool) where
-  pub any-hit : (ms : List ℕ) (k : ℕ) → k < length ms → p (getD ms k 0) ≡ true → anyOf p (drop k ms) ≡ true
-  unfolding anyOf
-  any-hit ms k h e = rw (drop-cons ms k 0, e)
-
-  pub any-miss : (ms : List ℕ) (k : ℕ) → k < length ms → p (getD ms k 0) ≡ false → anyOf p (drop k ms) ≡ anyOf p (drop (k + 1) ms)
-  unfolding anyOf
-  any-miss ms k h e = let i : suc k ≡ k + 1 = omega arith in rw (drop-cons ms k 0, e) (ap (λ (n : ℕ). anyOf p (drop n ms)) i)
-
-  pub any-over : (ms : List ℕ) (k : ℕ) → length ms ≤ k → anyOf p (drop k ms) ≡ false
-  unfolding anyOf
-  any-over [] zero h = refl
-  any-over [] (suc k) h = refl
-  any-over (m ∷ ms) zero h = absurd (omega arith)
-  any-over (m ∷ ms) (suc k) h = any-over ms k (omega arith)
 
 -- two columns have as many rows as the shorter
 pub rows-least : (ds : List Float) (ms : List ℕ) → length (rowsOf ds ms) ≡ min (length ds) (length ms)
