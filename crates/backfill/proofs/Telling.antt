@@ -11,7 +11,7 @@ use Rattle.projection.specs.declared.cursor.Position.{Position}
 use Rattle.projection.specs.declared.cursor.Position.the-variants.{Known, Missing}
 use Rattle.calibration.specs.Samples.{noSample, samplesAffine}
 use Rattle.calibration.specs.declared.affine.Sample.{Sample}
-use Rattle.trip_projection.specs.Vertices.{positionsFrom}
+use Rattle.trip_vertices.specs.Vertices.{positionsFrom}
 use Rattle.row_distances.specs.Rows.{rowsOf}
 use Rattle.backfill.specs.Samples.{addedEnd, endsOf, endsUnit, feedUnit, nextEnds, samplesIn}
 use Rattle.backfill.specs.declared.ends.Ends.{Ends}

@@ -8,7 +8,7 @@ use trip_rows::row_position;
 ghost use mathlib.Core.Path.{_≡_};
 ghost use lib.ListN.{length};
 ghost use Rattle.trip_rows.specs.Rows.{rowPosition};
-ghost use Rattle.trip_projection.specs.Vertices.{positionsFrom};
+ghost use Rattle.trip_vertices.specs.Vertices.{positionsFrom};
 ghost use Rattle.row_distances.specs.Rows.{rowsOf};
 ghost use Rattle.backfill.specs.Samples.{addedEnd, nextEnds, endsOf, samplesIn};
 

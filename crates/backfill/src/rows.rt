@@ -12,7 +12,7 @@ ghost use mathlib.Core.Path.{_≡_};
 ghost use lib.ListN.{length};
 ghost use Rattle.lengths.specs.Line.{lineOf};
 ghost use Rattle.trip_rows.specs.Rows.{rowPosition};
-ghost use Rattle.trip_projection.specs.Vertices.{positionsFrom};
+ghost use Rattle.trip_vertices.specs.Vertices.{positionsFrom};
 ghost use Rattle.row_distances.specs.Rows.{rowsOf, distsIn, marksIn};
 ghost use Rattle.backfill.specs.Samples.{feedUnit, endsUnit};
 ghost use Rattle.backfill.specs.Trip.{anyOf, isMissing, isMeasured, unitOf, backfillOf};

@@ -2,11 +2,12 @@
 use ids::IdColumn;
 use tables::LegAsked;
 use tables::Tables;
-use trip_projection::Projected;
 use trip_projection::project_trip;
+use trip_vertices::Projected;
 ghost use mathlib.Core.Path.{_≡_};
 ghost use Rattle.tables.specs.Pools.{pools};
-ghost use Rattle.trip_projection.specs.Answers.{projectAnswer, projectedOf, outputOf};
+ghost use Rattle.trip_projection.specs.Answers.{projectedOf, outputOf};
+ghost use Rattle.trip_vertices.specs.Written.{projectAnswer};
 ghost use Rattle.exports_stops.specs.Told.{rowsTold};
 
 // `refusal`: document 01's number, or 0. `rows`: how many rows of the output are written; 0 where it is refused.

@@ -10,7 +10,7 @@ use Rattle.lengths.specs.Line.{lineOf}
 use Rattle.projection.specs.declared.cursor.Position.{Position}
 use Rattle.tables.specs.Pools.{partOf}
 use Rattle.trip_rows.specs.Rows.{stopPosition, rowPosition}
-use Rattle.trip_projection.specs.Vertices.{positionsFrom}
+use Rattle.trip_vertices.specs.Vertices.{positionsFrom}
 use Rattle.row_distances.specs.Rows.{rowsOf, distsIn, marksIn}
 use Rattle.backfill.specs.Trip.{backfillOf}
 use Rattle.row_distances.specs.declared.row.Distance.{Distance}

@@ -11,7 +11,7 @@ use Rattle.tables.specs.Pools.{partOf}
 use Rattle.tables.specs.declared.lent.Stops.{Stops}
 use Rattle.tables.specs.declared.lent.StopTimes.{StopTimes}
 use Rattle.trip_rows.specs.Rows.{stopPosition, rowPosition}
-use Rattle.trip_projection.specs.Vertices.{positionsFrom}
+use Rattle.trip_vertices.specs.Vertices.{positionsFrom}
 use Rattle.row_distances.specs.Rows.{rowsOf, distsIn, marksIn}
 use Rattle.backfill.specs.Trip.{backfillOf}
 use Rattle.row_distances.specs.declared.row.Distance.{Distance}

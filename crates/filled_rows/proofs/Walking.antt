@@ -14,7 +14,7 @@ use Rattle.projection.specs.Projection.{projectionFrom, projectionOf, stepOf}
 use Rattle.projection.specs.declared.cursor.Position.{Position}
 use Rattle.projection.specs.declared.cursor.Position.the-variants.{Known, Missing}
 use Rattle.near_vertex.proofs.Range.{first-most}
-use Rattle.trip_projection.specs.Vertices.{positionsFrom}
+use Rattle.trip_vertices.specs.Vertices.{positionsFrom}
 use Rattle.row_distances.specs.Rows.{rowsOf, distsIn, marksIn}
 use Rattle.filled_rows.specs.Walk.{walkedOf, fillAll}
 use Rattle.row_distances.specs.declared.row.Distance.{Distance}

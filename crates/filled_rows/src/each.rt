@@ -11,7 +11,7 @@ ghost use lib.ListN.{length};
 ghost use Rattle.lengths.specs.Line.{lineOf};
 ghost use Rattle.projection.specs.Projection.{projectionOf};
 ghost use Rattle.trip_rows.specs.Rows.{rowPosition};
-ghost use Rattle.trip_projection.specs.Vertices.{positionsFrom};
+ghost use Rattle.trip_vertices.specs.Vertices.{positionsFrom};
 ghost use Rattle.row_distances.specs.Rows.{rowsOf, distsIn, marksIn};
 ghost use Rattle.filled_rows.specs.Walk.{fillAll};
 

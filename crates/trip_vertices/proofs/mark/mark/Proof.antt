@@ -1,8 +1,8 @@
 use borrow.Author.Needs.{needs}
 use Rattle.lengths.specs.Line.{lineOf}
-use Rattle.trip_projection.proofs.Writing.{mark-small, mark-at, mark-none}
-use Rattle.trip_projection.proofs.mark.mark.Statement.{statement}
-use Rattle.trip_projection.proofs.mark.mark.Tie as tie
+use Rattle.trip_vertices.proofs.Writing.{mark-small, mark-at, mark-none}
+use Rattle.trip_vertices.proofs.mark.mark.Statement.{statement}
+use Rattle.trip_vertices.proofs.mark.mark.Tie as tie
 
 pass-requires : tie.Need-pass-requires
 pass-requires c κs = search needs

@@ -11,7 +11,7 @@ use Rattle.projection.specs.Projection.{passedOf, projectionOf}
 use Rattle.projection.specs.declared.cursor.Passed.{Passed}
 use Rattle.projection.specs.declared.cursor.Position.{Position}
 use Rattle.trip_rows.specs.Rows.{rowPosition, tripLine}
-use Rattle.trip_projection.specs.declared.mark.Marked.{Marked}
+use Rattle.trip_vertices.specs.declared.mark.Marked.{Marked}
 
 -- a vertex, or 4,294,967,295 for none
 abbrev pub wordOf : Found → ℕ

@@ -1,14 +1,14 @@
--- `trip_projection::trip::fill` meets its contract. The loop's invariant: the words so far are written, and the rest are those from the cursor on.
+-- `trip_vertices::stops::fill` meets its contract. The loop's invariant: the words so far are written, and the rest are those from the cursor on.
 use borrow.Author.Needs.{needs}
 use Prim.Native.Nat.{_-_}
 use native.Mathlib.Omega.{arith}
 use mathlib.Core.Path.{_∙_, ap}
 use Rattle.lengths.specs.Line.{lineOf}
 use Rattle.trip_rows.specs.Rows.{rowPosition}
-use Rattle.trip_projection.proofs.Writing.{Filled, starts, goes-on, ends}
-use Rattle.trip_projection.proofs.trip.fill.Statement.{statement}
-use Rattle.trip_projection.proofs.trip.fill.Tie as tie
-use Rattle.trip_projection.proofs.mark.mark.Reads as mark-reads
+use Rattle.trip_vertices.proofs.Writing.{Filled, starts, goes-on, ends}
+use Rattle.trip_vertices.proofs.stops.fill.Statement.{statement}
+use Rattle.trip_vertices.proofs.stops.fill.Tie as tie
+use Rattle.trip_vertices.proofs.mark.mark.Reads as mark-reads
 use Rattle.trip_rows.proofs.row_position.Reads as row-position-reads
 
 abbrev Inv-loop : tie.InvT-loop

@@ -1,10 +1,10 @@
 use borrow.Author.Needs.{needs}
 use mathlib.Core.Path.{_∙_}
-use Rattle.trip_projection.specs.Vertices.{tripVertices}
+use Rattle.trip_vertices.specs.Vertices.{tripVertices}
 use Rattle.trip_rows.specs.Rows.{tripLine}
-use Rattle.trip_projection.proofs.Rooms.{line-small, of-none, of-short, of-enough}
-use Rattle.trip_projection.proofs.trip.write.Statement.{statement}
-use Rattle.trip_projection.proofs.trip.write.Tie as tie
+use Rattle.trip_vertices.proofs.Rooms.{line-small, of-none, of-short, of-enough}
+use Rattle.trip_vertices.proofs.stops.write.Statement.{statement}
+use Rattle.trip_vertices.proofs.stops.write.Tie as tie
 
 enum-known-found : tie.Need-enum-known-found
 enum-known-found c = search needs

@@ -1,4 +1,4 @@
--- What is answered and written where only room is wanting, and with the refusals before it. Assumes nothing.
+-- What is answered and written where only room is wanting. Assumes nothing.
 use Prim.Native.Nat.{ℕ, _<_, _≤_}
 use native.Mathlib.Omega.{arith}
 use mathlib.Core.Path.{_≡_}
@@ -6,25 +6,18 @@ use mathlib.Core.List.{List, [], _++_}
 use borrow.Author.Tests.{lt-ltb, le-ltb}
 use lib.Ieee.{Float}
 use lib.ListN.{length, drop, length-take}
-use Rattle.ids.specs.Pool.{cellOf, idOf}
+use Rattle.ids.specs.Pool.{cellOf}
 use Rattle.ids.specs.declared.lookup.Found.{Found}
 use Rattle.ids.specs.declared.lookup.Found.the-variants.{At, Nothing}
 use Rattle.ids.specs.declared.pool.Span.{Span}
-use Rattle.measure.specs.Answer.{Answer, refused, given}
-use Rattle.answers.proofs.Told.{denied, refused-first, kept}
+use Rattle.measure.specs.Answer.{refused, given}
 use Rattle.lengths.specs.Line.{lineOf}
 use Rattle.lengths.proofs.Rows.{vertex-count}
-use Rattle.tables.specs.Pools.{Pools}
-use Rattle.tables.specs.Bounds.{chartBounds}
-use Rattle.refusals.specs.Refuse.{refusalOf}
-use Rattle.tables.specs.declared.lent.LegAsked.{LegAsked}
 use Rattle.tables.specs.declared.lent.Tables.{Tables}
-use Rattle.geometry_checks.specs.Operations.{legCauses}
-use Rattle.trip_ids.specs.Trips.{tripOf}
 use Rattle.trip_rows.specs.Rows.{shapeColumn}
-use Rattle.trip_projection.specs.Vertices.{tripVertices}
-use Rattle.trip_projection.specs.Answers.{foundVertices, roomAnswer, roomOutput, askedVertices, projectRefusal, projectedOf, outputOf}
-use Rattle.trip_projection.proofs.Writing.{words-count}
+use Rattle.trip_vertices.specs.Vertices.{tripVertices}
+use Rattle.trip_vertices.specs.Written.{foundVertices, roomAnswer, roomOutput}
+use Rattle.trip_vertices.proofs.Writing.{words-count}
 
 -- a line of a shape's columns has as many vertices as a word counts
 pub line-small : (reals lon : List Float) (column points : Span) {lat : List Float} → lat ≡ shapeColumn reals column points → points .n < 4294967296 → length (lineOf lat lon) ≤ 4294967295
@@ -58,16 +51,3 @@ module _ (bytes words : List ℕ) (reals : List Float) (t : Tables) (out : List 
     of-enough h w =
         let i : n ≡ length (tripVertices bytes words reals t trip) = omega (arith, vertices-count trip) in
         rw (e, w, i) (enough (tripVertices bytes words reals t trip) out (omega arith))
-
--- the operation: refused, or the trip found
-module _ (p : Pools) (t : Tables) (l : LegAsked) (out : List ℕ) where
-  pub op-refused : {n : ℕ} → n ≡ refusalOf p (legCauses chartBounds t l) → (n ≡ 0 → ⊥) → (refused n ≡ projectedOf p t l out) × (out ≡ outputOf p t l out)
-  unfolding projectedOf outputOf projectRefusal
-  op-refused {n} e h = rw (← e, refused-first n (length (askedVertices p t l)) (length out) h) (denied n (length (askedVertices p t l)) h, kept n (askedVertices p t l) out h)
-
-  pub op-given : refusalOf p (legCauses chartBounds t l) ≡ 0 → {found : Found} → found ≡ tripOf (p .bytes) (p .words) (t .tripkeys) (idOf (p .bytes) (p .words) (l .trip) 0) →
-      {r : Answer ℕ} {after : List ℕ} →
-      (r ≡ roomAnswer (foundVertices (p .bytes) (p .words) (p .reals) t found) out) × (after ≡ roomOutput (foundVertices (p .bytes) (p .words) (p .reals) t found) out) →
-      (r ≡ projectedOf p t l out) × (after ≡ outputOf p t l out)
-  unfolding projectedOf outputOf projectRefusal askedVertices roomAnswer roomOutput
-  op-given e f h = rw (e, ← f) h

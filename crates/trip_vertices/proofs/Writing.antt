@@ -17,8 +17,8 @@ use Rattle.projection.specs.declared.cursor.Position.{Position}
 use Rattle.projection.specs.declared.cursor.Position.the-variants.{Known, Missing}
 use Rattle.near_vertex.proofs.Range.{first-most}
 use Rattle.projection.proofs.Order.{same-count}
-use Rattle.trip_projection.specs.declared.mark.Marked.{Marked}
-use Rattle.trip_projection.specs.Vertices.{wordOf, markedOf, positionsFrom, vertexWords}
+use Rattle.trip_vertices.specs.declared.mark.Marked.{Marked}
+use Rattle.trip_vertices.specs.Vertices.{wordOf, markedOf, positionsFrom, vertexWords}
 
 -- a vertex is one of the line's, or 0
 pub vertex-most : (line : List Point) (c : Cursor) (stop : Position) (k : ℕ) → passedOf line c stop .vertex ≡ At k → k ≤ length line - 1

@@ -6,7 +6,7 @@ ghost use mathlib.Core.Path.{_≡_};
 ghost use Prim.Native.Nat.{_≤_};
 ghost use lib.ListN.{length};
 ghost use Rattle.lengths.specs.Line.{lineOf};
-ghost use Rattle.trip_projection.specs.Vertices.{wordOf, markedOf};
+ghost use Rattle.trip_vertices.specs.Vertices.{wordOf, markedOf};
 
 // Where the cursor is after a stop, and the stop's vertex as a word.
 pub(crate) struct Marked {
