@@ -12,11 +12,11 @@ use Rattle.lengths.specs.Length.{lengthTo}
 use Rattle.lengths.specs.declared.line.Point.{Point}
 use Rattle.projection.specs.Projection.{projectionOf}
 use Rattle.projection.specs.declared.cursor.Position.{Position}
-use Rattle.backfill.specs.Walk.{filledAt}
-use Rattle.backfill.specs.Trip.{fillAll, unitOf, backfillOf}
-use Rattle.backfill.specs.declared.row.Distance.{Distance}
-use Rattle.backfill.specs.declared.row.Unit.{Unit}
-use Rattle.backfill.proofs.Written.{kept}
+use Rattle.filled_rows.specs.Walk.{filledAt, fillAll}
+use Rattle.backfill.specs.Trip.{unitOf, backfillOf}
+use Rattle.row_distances.specs.declared.row.Distance.{Distance}
+use Rattle.row_distances.specs.declared.row.Unit.{Unit}
+use Rattle.row_distances.proofs.Written.{kept}
 
 -- what a row that is not there reads as: it has no distance
 abbrev pub none : Distance

@@ -1,7 +1,5 @@
--- `Columns`: rows and their columns. `Written`: what is written into a row. `Telling`: the unit. `Filling`: the rows of a trip, filled one by one.
--- `Keeps`: a distance that is there is as it was.
-pub mod Columns
-pub mod Written
+-- `Flags`: a search among flags. `Telling`: the unit. `Filling`: backfill by the tests that lead to it. `Keeps`: a distance that is there is as it was.
+pub mod Flags
 pub mod Telling
 pub mod Filling
 pub mod Keeps

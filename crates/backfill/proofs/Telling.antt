@@ -11,13 +11,13 @@ use Rattle.projection.specs.declared.cursor.Position.{Position}
 use Rattle.projection.specs.declared.cursor.Position.the-variants.{Known, Missing}
 use Rattle.calibration.specs.Samples.{noSample, samplesAffine}
 use Rattle.calibration.specs.declared.affine.Sample.{Sample}
-use Rattle.trip_projection.specs.Vertices.{positionsFrom}
-use Rattle.backfill.specs.Rows.{rowsOf}
+use Rattle.trip_vertices.specs.Vertices.{positionsFrom}
+use Rattle.row_distances.specs.Rows.{rowsOf}
 use Rattle.backfill.specs.Samples.{addedEnd, endsOf, endsUnit, feedUnit, nextEnds, samplesIn}
 use Rattle.backfill.specs.declared.ends.Ends.{Ends}
 use Rattle.backfill.specs.declared.ends.Ends.the-variants.{Nothing, Both}
-use Rattle.backfill.specs.declared.row.Distance.{Distance}
-use Rattle.backfill.proofs.Columns.{rows-from}
+use Rattle.row_distances.specs.declared.row.Distance.{Distance}
+use Rattle.row_distances.proofs.Columns.{rows-from}
 
 -- a row that is no sample, and one that is
 module _ (ends : Ends) {stop : Position} (row : Distance) where

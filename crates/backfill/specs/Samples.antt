@@ -9,9 +9,9 @@ use Rattle.calibration.specs.Affine.{shapeDistAffine}
 use Rattle.unit_scales.specs.declared.metres.Calibrated.{Calibrated}
 use Rattle.unit_scales.specs.declared.metres.Calibrated.the-variants.{By, Nothing as NoAnswer}
 use Rattle.calibration.specs.declared.affine.Sample.{Sample}
-use Rattle.backfill.specs.declared.row.Distance.{Distance}
-use Rattle.backfill.specs.declared.row.Unit.{Unit}
-use Rattle.backfill.specs.declared.row.Unit.the-variants.{Feed, Unknown}
+use Rattle.row_distances.specs.declared.row.Distance.{Distance}
+use Rattle.row_distances.specs.declared.row.Unit.{Unit}
+use Rattle.row_distances.specs.declared.row.Unit.the-variants.{Feed, Unknown}
 use Rattle.backfill.specs.declared.ends.Ends.{Ends}
 use Rattle.backfill.specs.declared.ends.Ends.the-variants.{Nothing, One, Both}
 

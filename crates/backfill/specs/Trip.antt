@@ -4,17 +4,16 @@ use mathlib.Core.Bool.{Bool, false, not, cond, _||_}
 use mathlib.Core.List.{List, [], _∷_}
 use lib.Dec.{eqb, ltb}
 use lib.ListN.{length}
-use Rattle.ids.specs.declared.lookup.Found.{Found}
 use Rattle.lengths.specs.declared.line.Point.{Point}
 use Rattle.projection.specs.Projection.{projectionOf}
 use Rattle.projection.specs.declared.cursor.Position.{Position}
 use Rattle.calibration.specs.Samples.{samplesAffine}
-use Rattle.backfill.specs.Rows.{marksIn}
+use Rattle.row_distances.specs.Rows.{marksIn}
 use Rattle.backfill.specs.Samples.{feedUnit, samplesIn}
-use Rattle.backfill.specs.Walk.{filledAt}
-use Rattle.backfill.specs.declared.row.Distance.{Distance}
-use Rattle.backfill.specs.declared.row.Unit.{Unit}
-use Rattle.backfill.specs.declared.row.Unit.the-variants.{Metres}
+use Rattle.filled_rows.specs.Walk.{fillAll}
+use Rattle.row_distances.specs.declared.row.Distance.{Distance}
+use Rattle.row_distances.specs.declared.row.Unit.{Unit}
+use Rattle.row_distances.specs.declared.row.Unit.the-variants.{Metres}
 
 -- a row has no distance, or one
 abbrev pub isMissing : ℕ → Bool
@@ -31,12 +30,6 @@ anyOf p (m ∷ ms) = p m || anyOf p ms
 -- the unit that missing distances are written in: metres where all are missing, and else the feed's own, as the samples tell it
 unfoldable pub unitOf : List Point → List Position → List Distance → Unit
 unitOf line stops rows = cond (anyOf isMeasured (marksIn rows)) (feedUnit (samplesAffine line (samplesIn stops rows))) Metres
-
--- each row by its stop's vertex
-unfoldable pub fillAll : List Point → Unit → List Found → List Distance → List Distance
-fillAll line unit [] rows = rows
-fillAll line unit (f ∷ fs) [] = []
-fillAll line unit (f ∷ fs) (row ∷ rows) = filledAt line unit f row ∷ fillAll line unit fs rows
 
 -- a trip's rows after backfill: on a line of fewer than two points they are as they were
 unfoldable pub backfillOf : List Point → List Position → List Distance → List Distance

@@ -1,15 +1,15 @@
 // The first and the last sample of a trip's rows: those that have a distance and whose stop has a position.
-use crate::row::Distance;
 use calibration::Sample;
 use projection::Position;
+use row_distances::Distance;
 use tables::StopTimes;
 use tables::Stops;
 use trip_rows::row_position;
 ghost use mathlib.Core.Path.{_≡_};
 ghost use lib.ListN.{length};
 ghost use Rattle.trip_rows.specs.Rows.{rowPosition};
-ghost use Rattle.trip_projection.specs.Vertices.{positionsFrom};
-ghost use Rattle.backfill.specs.Rows.{rowsOf};
+ghost use Rattle.trip_vertices.specs.Vertices.{positionsFrom};
+ghost use Rattle.row_distances.specs.Rows.{rowsOf};
 ghost use Rattle.backfill.specs.Samples.{addedEnd, nextEnds, endsOf, samplesIn};
 
 pub enum Ends {

@@ -1,25 +1,21 @@
 // The rows of one trip.
 use crate::ends::Ends;
 use crate::ends::ends_of;
-use crate::row::Distance;
-use crate::row::Unit;
-use crate::walk::walk;
+use unit_scales::Calibrated;
 use calibration::shape_dist_affine;
+use filled_rows::fill;
 use lengths::vertices;
+use row_distances::Unit;
 use tables::StopTimes;
 use tables::Stops;
-use trip_rows::row_position;
-use unit_scales::Calibrated;
 ghost use mathlib.Core.Path.{_≡_};
-ghost use Prim.Native.Nat.{_<_};
 ghost use lib.ListN.{length};
 ghost use Rattle.lengths.specs.Line.{lineOf};
-ghost use Rattle.projection.specs.Projection.{projectionOf};
 ghost use Rattle.trip_rows.specs.Rows.{rowPosition};
-ghost use Rattle.trip_projection.specs.Vertices.{positionsFrom};
-ghost use Rattle.backfill.specs.Rows.{rowsOf, distsIn, marksIn};
+ghost use Rattle.trip_vertices.specs.Vertices.{positionsFrom};
+ghost use Rattle.row_distances.specs.Rows.{rowsOf, distsIn, marksIn};
 ghost use Rattle.backfill.specs.Samples.{feedUnit, endsUnit};
-ghost use Rattle.backfill.specs.Trip.{anyOf, isMissing, isMeasured, unitOf, fillAll, backfillOf};
+ghost use Rattle.backfill.specs.Trip.{anyOf, isMissing, isMeasured, unitOf, backfillOf};
 
 // Whether some row has no distance.
 fn any_missing(measured: &[u8]) -> bool
@@ -96,55 +92,6 @@ fn unit_of(
         lon,
         ends_of(bytes, words, reals, stops, calls, first, n, dist, measured),
     )
-}
-
-// Writes the missing distances of n rows from `first` on, in a unit.
-fn fill(
-    bytes: &[u8],
-    words: &[u32],
-    reals: &[f64],
-    stops: Stops,
-    calls: StopTimes,
-    lat: &[f64],
-    lon: &[f64],
-    unit: Unit,
-    first: u32,
-    n: u32,
-    dist: &mut [f32],
-    measured: &mut [u8],
-)
-    requires { ⌜ 0 < length (lineOf (now lat) (now lon)) ⌝ }
-    requires { ⌜ n ≡ length (now dist) ⌝ }
-    requires { ⌜ n ≡ length (now measured) ⌝ }
-    ensures { λ r. ⌜ now (dist .exit) ≡ distsIn (fillAll (lineOf (now (lat .entry)) (now (lon .entry))) unit (projectionOf (lineOf (now (lat .entry)) (now (lon .entry))) (positionsFrom (rowPosition (now (bytes .entry)) (now (words .entry)) (now (reals .entry)) stops calls) first n)) (rowsOf (now (dist .entry)) (now (measured .entry)))) ⌝ }
-    ensures { λ r. ⌜ now (measured .exit) ≡ marksIn (fillAll (lineOf (now (lat .entry)) (now (lon .entry))) unit (projectionOf (lineOf (now (lat .entry)) (now (lon .entry))) (positionsFrom (rowPosition (now (bytes .entry)) (now (words .entry)) (now (reals .entry)) stops calls) first n)) (rowsOf (now (dist .entry)) (now (measured .entry)))) ⌝ }
-{
-    let from = first as usize;
-    let rows = n as usize;
-    let mut at = 0;
-    let mut sum = 0.0;
-    let mut k = 0;
-    while k < rows {
-        let row = Distance {
-            dist: dist[k],
-            measured: measured[k],
-        };
-        let walked = walk(
-            lat,
-            lon,
-            unit,
-            at,
-            sum,
-            row_position(bytes, words, reals, stops, calls, from + k),
-            row,
-        );
-        let after = walked.row;
-        dist[k] = after.dist;
-        measured[k] = after.measured;
-        at = walked.at;
-        sum = walked.sum;
-        k += 1;
-    }
 }
 
 // Backfill of one trip: n rows of the stop times from `first` on, whose distances and flags are lent, on the line of its shape.

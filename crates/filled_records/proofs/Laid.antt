@@ -10,11 +10,11 @@ use Rattle.lengths.specs.Line.{lineOf}
 use Rattle.projection.specs.declared.cursor.Position.{Position}
 use Rattle.tables.specs.Pools.{partOf}
 use Rattle.trip_rows.specs.Rows.{stopPosition, rowPosition}
-use Rattle.trip_projection.specs.Vertices.{positionsFrom}
-use Rattle.backfill.specs.Rows.{rowsOf, distsIn, marksIn}
+use Rattle.trip_vertices.specs.Vertices.{positionsFrom}
+use Rattle.row_distances.specs.Rows.{rowsOf, distsIn, marksIn}
 use Rattle.backfill.specs.Trip.{backfillOf}
-use Rattle.backfill.specs.declared.row.Distance.{Distance}
-use Rattle.backfill.proofs.Columns.{dists-count, marks-count}
+use Rattle.row_distances.specs.declared.row.Distance.{Distance}
+use Rattle.row_distances.proofs.Columns.{dists-count, marks-count}
 use Rattle.backfill.proofs.Filling.{backfill-count}
 use Rattle.records.specs.Rows.{each, mapTo}
 use Rattle.records.specs.Records.{none, fillRow, flagOf}

@@ -8,7 +8,7 @@ use lib.ListN.{length, drop}
 use Rattle.tables.specs.Pools.{pools}
 use Rattle.tables.specs.Bounds.{chartBounds}
 use Rattle.refusals.specs.Refuse.{refusalOf}
-use Rattle.backfill.specs.Rows.{distsIn, marksIn}
+use Rattle.row_distances.specs.Rows.{distsIn, marksIn}
 use Rattle.records.specs.Rows.{each}
 use Rattle.records.specs.Records.{fillRow}
 use Rattle.records.specs.declared.StopTime.{StopTime}

@@ -11,10 +11,10 @@ use Rattle.tables.specs.Pools.{partOf}
 use Rattle.tables.specs.declared.lent.Stops.{Stops}
 use Rattle.tables.specs.declared.lent.StopTimes.{StopTimes}
 use Rattle.trip_rows.specs.Rows.{stopPosition, rowPosition}
-use Rattle.trip_projection.specs.Vertices.{positionsFrom}
-use Rattle.backfill.specs.Rows.{rowsOf, distsIn, marksIn}
+use Rattle.trip_vertices.specs.Vertices.{positionsFrom}
+use Rattle.row_distances.specs.Rows.{rowsOf, distsIn, marksIn}
 use Rattle.backfill.specs.Trip.{backfillOf}
-use Rattle.backfill.specs.declared.row.Distance.{Distance}
+use Rattle.row_distances.specs.declared.row.Distance.{Distance}
 use Rattle.records.specs.Rows.{each, mapTo}
 use Rattle.records.specs.Records.{fillRow, flagOf, stopCol, distCol, knownCol}
 use Rattle.records.specs.declared.StopTime.{StopTime}

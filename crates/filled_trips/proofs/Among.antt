@@ -15,12 +15,12 @@ use Rattle.lengths.specs.declared.line.Point.{Point}
 use Rattle.projection.specs.declared.cursor.Position.{Position}
 use Rattle.tables.specs.declared.lent.Tables.{Tables}
 use Rattle.trip_rows.specs.Rows.{rowPosition, tripLine}
-use Rattle.trip_projection.specs.Vertices.{positionsFrom}
-use Rattle.backfill.specs.Rows.{rowsOf, distOf, markOf, distsIn, marksIn}
+use Rattle.trip_vertices.specs.Vertices.{positionsFrom}
+use Rattle.row_distances.specs.Rows.{rowsOf, distOf, markOf, distsIn, marksIn}
 use Rattle.backfill.specs.Trip.{backfillOf}
 use Rattle.filled_trips.specs.Tables.{afterTrip, afterTrips}
-use Rattle.backfill.specs.declared.row.Distance.{Distance}
-use Rattle.backfill.proofs.Columns.{rows-count, rows-least, dists-back, marks-back, dists-count, marks-count, map-take, map-drop, map-join, rows-take, rows-drop, rows-back}
+use Rattle.row_distances.specs.declared.row.Distance.{Distance}
+use Rattle.row_distances.proofs.Columns.{rows-count, rows-least, dists-back, marks-back, dists-count, marks-count, map-take, map-drop, map-join, rows-take, rows-drop, rows-back}
 use Rattle.backfill.proofs.Filling.{backfill-count}
 
 -- a part of columns that is put back, and the rows

@@ -14,9 +14,9 @@ use borrow.Author.Tests.{le-ltb, ltb-false}
 use Rattle.ids.specs.Pool.{cellOf}
 use Rattle.tables.specs.declared.lent.Tables.{Tables}
 use Rattle.trip_rows.specs.Rows.{rowPosition, tripLine}
-use Rattle.trip_projection.specs.Vertices.{positionsFrom}
+use Rattle.trip_vertices.specs.Vertices.{positionsFrom}
 use Rattle.backfill.specs.Trip.{backfillOf}
-use Rattle.backfill.specs.declared.row.Distance.{Distance}
+use Rattle.row_distances.specs.declared.row.Distance.{Distance}
 use Rattle.backfill.proofs.Keeps.{none, Present, trip-keeps}
 use Rattle.backfill.proofs.Filling.{backfill-count}
 use Rattle.filled_trips.specs.Tables.{afterTrip, afterTrips}

@@ -8,9 +8,9 @@ use lib.ListN.{length, take, drop}
 use Rattle.ids.specs.Pool.{cellOf}
 use Rattle.tables.specs.declared.lent.Tables.{Tables}
 use Rattle.trip_rows.specs.Rows.{rowPosition, tripLine}
-use Rattle.trip_projection.specs.Vertices.{positionsFrom}
+use Rattle.trip_vertices.specs.Vertices.{positionsFrom}
 use Rattle.backfill.specs.Trip.{backfillOf}
-use Rattle.backfill.specs.declared.row.Distance.{Distance}
+use Rattle.row_distances.specs.declared.row.Distance.{Distance}
 
 -- the rows of all stop times after backfill of one trip: its own, n from `first` on, and the others as they were. A trip whose rows are not all there changes none
 unfoldable pub afterTrip : List ℕ → List ℕ → List Float → Tables → ℕ → List Distance → List Distance

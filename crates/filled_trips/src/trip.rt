@@ -5,7 +5,7 @@ use trip_rows::shape_column;
 use trip_rows::trip_span;
 ghost use mathlib.Core.Path.{_≡_};
 ghost use lib.ListN.{length};
-ghost use Rattle.backfill.specs.Rows.{rowsOf, distsIn, marksIn};
+ghost use Rattle.row_distances.specs.Rows.{rowsOf, distsIn, marksIn};
 ghost use Rattle.filled_trips.specs.Tables.{afterTrip};
 
 // Backfill of the trip. Where its rows are not all there nothing is written.

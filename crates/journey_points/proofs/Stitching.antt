@@ -10,7 +10,7 @@ use Rattle.ids.specs.Pool.{cellOf}
 use Rattle.columns.specs.Rows.{bitOf}
 use Rattle.projection.specs.declared.cursor.Position.{Position}
 use Rattle.projection.specs.declared.cursor.Position.the-variants.{Known, Missing}
-use Rattle.trip_projection.specs.Vertices.{positionsFrom}
+use Rattle.trip_vertices.specs.Vertices.{positionsFrom}
 use Rattle.point_columns.specs.Drawn.{nextOf, latPut, lonPut, drawnFrom, latsOf, lonsOf}
 use Rattle.point_columns.specs.Sheet.{Sheet, sheet, drawOne, drawAll}
 use Rattle.point_columns.proofs.Sheets.{in-parts, one-most, counted, lat-done, lon-done}

@@ -12,7 +12,7 @@ use Rattle.projection.specs.declared.cursor.Position.{Position}
 use Rattle.projection.specs.declared.cursor.Position.the-variants.{Known, Missing}
 use Rattle.tables.specs.declared.lent.Points.{Points}
 use Rattle.trip_rows.specs.Rows.{realOf}
-use Rattle.trip_projection.specs.Vertices.{positionsFrom}
+use Rattle.trip_vertices.specs.Vertices.{positionsFrom}
 use Rattle.point_columns.specs.Drawn.{drawnFrom}
 use Rattle.journey_rules.specs.declared.lent.JourneyLegs.{JourneyLegs}
 use Rattle.repeated_points.specs.Repeats.{differ}

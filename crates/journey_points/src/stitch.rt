@@ -14,7 +14,7 @@ ghost use Prim.Native.Nat.{_+_, _<_, _≤_};
 ghost use lib.ListN.{length, drop};
 ghost use Rattle.point_columns.specs.Drawn.{latsOf, lonsOf};
 ghost use Rattle.point_columns.specs.Sheet.{sheet, drawOne, drawAll};
-ghost use Rattle.trip_projection.specs.Vertices.{positionsFrom};
+ghost use Rattle.trip_vertices.specs.Vertices.{positionsFrom};
 ghost use Rattle.repeated_points.specs.Repeats.{differ};
 ghost use Rattle.journey_points.specs.Journey.{pointAt, pointPosition, endAt, endPositions, legPositions, journeyPoints};
 

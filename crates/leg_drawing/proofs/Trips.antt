@@ -19,7 +19,7 @@ use Rattle.tables.specs.declared.lent.Tables.{Tables}
 use Rattle.geometry_checks.specs.Operations.{legCauses}
 use Rattle.trip_ids.specs.Trips.{tripOf}
 use Rattle.trip_rows.specs.Rows.{rowPosition, shapeColumn, tripSpan, tripLine}
-use Rattle.trip_projection.specs.Vertices.{positionsFrom}
+use Rattle.trip_vertices.specs.Vertices.{positionsFrom}
 use Rattle.leg_parts.specs.Parts.{endsOf}
 use Rattle.leg_points.specs.Leg.{partDrawn, stopsDrawn, legPoints}
 use Rattle.leg_drawing.specs.Trip.{tripPoints, foundPoints, askedPoints}

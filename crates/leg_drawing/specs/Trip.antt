@@ -11,7 +11,7 @@ use Rattle.tables.specs.declared.lent.LegAsked.{LegAsked}
 use Rattle.tables.specs.declared.lent.Tables.{Tables}
 use Rattle.trip_ids.specs.Trips.{tripOf}
 use Rattle.trip_rows.specs.Rows.{rowPosition, tripLine}
-use Rattle.trip_projection.specs.Vertices.{positionsFrom}
+use Rattle.trip_vertices.specs.Vertices.{positionsFrom}
 use Rattle.leg_parts.specs.Parts.{endsOf}
 use Rattle.leg_points.specs.Leg.{legPoints}
 

@@ -20,7 +20,7 @@ ghost use Rattle.tables.specs.Bounds.{chartBounds};
 ghost use Rattle.refusals.specs.Refuse.{refusalOf};
 ghost use Rattle.geometry_checks.specs.Operations.{legCauses};
 ghost use Rattle.trip_rows.specs.Rows.{rowPosition};
-ghost use Rattle.trip_projection.specs.Vertices.{positionsFrom};
+ghost use Rattle.trip_vertices.specs.Vertices.{positionsFrom};
 ghost use Rattle.point_columns.specs.Answers.{drawingAnswer, drawnAnswer, latAfter, lonAfter};
 ghost use Rattle.leg_parts.specs.Parts.{endsOf};
 ghost use Rattle.leg_points.specs.Leg.{stopsDrawn};

@@ -21,7 +21,7 @@ use Rattle.projection.specs.declared.cursor.Position.{Position}
 use Rattle.projection.specs.declared.cursor.Position.the-variants.{Known, Missing}
 use Rattle.near_vertex.proofs.Range.{first-most}
 use Rattle.projection.proofs.Order.{gets-none}
-use Rattle.trip_projection.specs.Vertices.{positionsFrom}
+use Rattle.trip_vertices.specs.Vertices.{positionsFrom}
 use Rattle.leg_points.specs.Leg.{vertexOf, legPart}
 use Rattle.leg_parts.specs.Parts.{partBetween}
 use Rattle.leg_parts.specs.declared.ends.Ends.{Ends}

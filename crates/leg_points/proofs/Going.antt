@@ -11,7 +11,7 @@ use Rattle.projection.specs.declared.cursor.Position.{Position}
 use Rattle.projection.specs.declared.cursor.Position.the-variants.{Known, Missing}
 use Rattle.point_columns.specs.Drawn.{nextOf, laterOf, drawnFrom, latsOf, lonsOf, latPut, lonPut, rowAfter}
 use Rattle.point_columns.proofs.Writing.{Drawn, starts, goes-on, ends, lat-ends, lon-ends}
-use Rattle.trip_projection.specs.Vertices.{positionsFrom}
+use Rattle.trip_vertices.specs.Vertices.{positionsFrom}
 use Rattle.leg_points.specs.Leg.{stopsDrawn}
 use Rattle.leg_parts.specs.Parts.{endsOf, apart}
 use Rattle.leg_parts.specs.declared.ends.Ends.{Ends}

@@ -13,7 +13,7 @@ use Rattle.projection.specs.declared.cursor.Passed.{Passed}
 use Rattle.projection.specs.declared.cursor.Position.{Position}
 use Rattle.projection.specs.declared.cursor.Position.the-variants.{Known, Missing}
 use Rattle.projection.proofs.Split.{split-cursor}
-use Rattle.trip_projection.specs.Vertices.{positionsFrom}
+use Rattle.trip_vertices.specs.Vertices.{positionsFrom}
 
 module _ (position : ℕ → Position) where
   pub count : (row n : ℕ) → length (positionsFrom position row n) ≡ n

@@ -13,7 +13,7 @@ ghost use Prim.Native.Nat.{_≤_};
 ghost use lib.ListN.{length, drop};
 ghost use Rattle.point_columns.specs.Drawn.{latsOf, lonsOf};
 ghost use Rattle.trip_rows.specs.Rows.{rowPosition};
-ghost use Rattle.trip_projection.specs.Vertices.{positionsFrom};
+ghost use Rattle.trip_vertices.specs.Vertices.{positionsFrom};
 ghost use Rattle.leg_points.specs.Leg.{stopsDrawn};
 ghost use Rattle.leg_parts.specs.Parts.{endsOf};
 

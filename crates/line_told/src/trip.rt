@@ -1,7 +1,7 @@
 // A trip's stops.
-use trip_projection::Projected;
+use trip_vertices::Projected;
 ghost use mathlib.Core.Path.{_≡_};
-ghost use Rattle.trip_projection.specs.Answers.{projectAnswer};
+ghost use Rattle.trip_vertices.specs.Written.{projectAnswer};
 ghost use Rattle.line_told.specs.Told.{rowsTold};
 
 // `refusal`: document 01's number, or 0. `rows`: how many rows of the output are written; 0 where it is refused.

@@ -10,7 +10,7 @@ use tables::LegAsked;
 use tables::Stops;
 use tables::Tables;
 use tables::Trips;
-use trip_projection::Projected;
+use trip_vertices::Projected;
 
 // Stops and trips of which a query of a trip's row is lent positions, rows and shapes, and no ids.
 fn plain_stops(t: Tables, n: u32) -> Stops {

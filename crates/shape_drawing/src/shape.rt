@@ -9,7 +9,7 @@ ghost use Prim.Native.Nat.{_-_, _<_, _≤_};
 ghost use lib.ListN.{length, take, drop};
 ghost use Rattle.lengths.specs.Line.{lineOf};
 ghost use Rattle.trip_rows.specs.Rows.{rowPosition};
-ghost use Rattle.trip_projection.specs.Vertices.{positionsFrom};
+ghost use Rattle.trip_vertices.specs.Vertices.{positionsFrom};
 ghost use Rattle.point_columns.specs.Answers.{drawingAnswer, drawnAnswer, latAfter, lonAfter};
 ghost use Rattle.leg_parts.specs.Parts.{endsOf};
 ghost use Rattle.leg_points.specs.Leg.{partDrawn};

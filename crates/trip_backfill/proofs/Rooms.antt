@@ -13,11 +13,11 @@ use Rattle.tables.specs.Bounds.{chartBounds}
 use Rattle.refusals.specs.Refuse.{refusalOf}
 use Rattle.tables.specs.declared.lent.Tables.{Tables}
 use Rattle.geometry_checks.specs.Operations.{geometryCauses}
-use Rattle.backfill.specs.Rows.{rowsOf, distsIn, marksIn}
+use Rattle.row_distances.specs.Rows.{rowsOf, distsIn, marksIn}
 use Rattle.filled_trips.specs.Tables.{afterTrips}
 use Rattle.trip_backfill.specs.Answers.{lentRows, shortOf, roomAnswer, roomDists, roomMarks, fillRefusal, filledOf, filledDists, filledMarks}
-use Rattle.backfill.specs.declared.row.Distance.{Distance}
-use Rattle.backfill.proofs.Columns.{dists-count, marks-count}
+use Rattle.row_distances.specs.declared.row.Distance.{Distance}
+use Rattle.row_distances.proofs.Columns.{dists-count, marks-count}
 use Rattle.filled_trips.proofs.Among.{trips-count}
 
 -- where only room is wanting: so many rows, and as many afterwards

@@ -10,9 +10,9 @@ use Rattle.tables.specs.Bounds.{chartBounds}
 use Rattle.refusals.specs.Refuse.{refusalOf}
 use Rattle.tables.specs.declared.lent.Tables.{Tables}
 use Rattle.geometry_checks.specs.Operations.{geometryCauses}
-use Rattle.backfill.specs.Rows.{rowsOf, distsIn, marksIn}
+use Rattle.row_distances.specs.Rows.{rowsOf, distsIn, marksIn}
 use Rattle.filled_trips.specs.Tables.{afterTrips}
-use Rattle.backfill.specs.declared.row.Distance.{Distance}
+use Rattle.row_distances.specs.declared.row.Distance.{Distance}
 use Rattle.trip_backfill.specs.declared.trips.Backfilled.{Backfilled}
 use Rattle.trip_backfill.specs.declared.trips.Backfilled.the-variants.{Rows, Refused}
 

@@ -2,7 +2,7 @@
 ghost use mathlib.Core.Path.{_≡_};
 ghost use Prim.Native.Nat.{_≤_};
 ghost use lib.ListN.{length, take};
-ghost use Rattle.backfill.specs.Rows.{rowsOf};
+ghost use Rattle.row_distances.specs.Rows.{rowsOf};
 
 // Distances, as many as there is room for.
 pub(crate) fn copy_dists(from: &[f32], to: &mut [f32])

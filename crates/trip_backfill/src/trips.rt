@@ -13,7 +13,7 @@ ghost use mathlib.Core.Path.{_≡_};
 ghost use Prim.Native.Nat.{_-_, _≤_};
 ghost use lib.ListN.{length};
 ghost use Rattle.tables.specs.Pools.{pools};
-ghost use Rattle.backfill.specs.Rows.{rowsOf, distsIn, marksIn};
+ghost use Rattle.row_distances.specs.Rows.{rowsOf, distsIn, marksIn};
 ghost use Rattle.filled_trips.specs.Tables.{afterTrips};
 ghost use Rattle.one_trip.specs.One.{oneOf};
 ghost use Rattle.trip_backfill.specs.Answers.{backfillAnswer, filledOf, filledDists, filledMarks, roomAnswer, roomDists, roomMarks};

@@ -1,3 +1,2 @@
--- `Writing`: the words that a loop writes, one by one. `Rooms`: what is answered and written where only room is wanting.
-pub mod Writing
-pub mod Rooms
+-- `Refusals`: the operation, refused or answered.
+pub mod Refusals

@@ -1,12 +1,9 @@
 -- The projection of a trip as an operation: the first refusal that applies, or how many rows are written; and the output.
 use Prim.Native.Nat.{ℕ}
-use mathlib.Core.List.{List, []}
-use lib.Ieee.{Float}
+use mathlib.Core.List.{List}
 use lib.ListN.{length}
 use Rattle.ids.specs.Pool.{idOf}
-use Rattle.ids.specs.declared.lookup.Found.{Found}
-use Rattle.ids.specs.declared.lookup.Found.the-variants.{At, Nothing}
-use Rattle.measure.specs.Answer.{Answer, refused, given}
+use Rattle.measure.specs.Answer.{Answer}
 use Rattle.answers.specs.Answers.{unlessRefused, orShort, unlessKept}
 use Rattle.tables.specs.Pools.{Pools}
 use Rattle.tables.specs.Bounds.{chartBounds}
@@ -15,28 +12,9 @@ use Rattle.tables.specs.declared.lent.LegAsked.{LegAsked}
 use Rattle.tables.specs.declared.lent.Tables.{Tables}
 use Rattle.geometry_checks.specs.Operations.{legCauses}
 use Rattle.trip_ids.specs.Trips.{tripOf}
-use Rattle.trip_projection.specs.Vertices.{tripVertices}
-use Rattle.trip_projection.specs.declared.trip.Projected.{Projected}
-use Rattle.trip_projection.specs.declared.trip.Projected.the-variants.{Rows, Refused}
+use Rattle.trip_vertices.specs.Written.{foundVertices}
 
--- the number and the value of each case
-abbrev pub projectAnswer : Projected → Answer ℕ
-projectAnswer (Rows n) = given n
-projectAnswer (Refused n) = refused n
-
--- the vertices of the trip found; none where there is none
-abbrev pub foundVertices : List ℕ → List ℕ → List Float → Tables → Found → List ℕ
-foundVertices bytes words reals t (At trip) = tripVertices bytes words reals t trip
-foundVertices bytes words reals t Nothing = []
-
--- how many words are written, and the output afterwards, where only room is wanting
-unfoldable pub roomAnswer : List ℕ → List ℕ → Answer ℕ
-roomAnswer vertices out = unlessRefused (orShort 0 (length vertices) (length out)) (length vertices)
-
-unfoldable pub roomOutput : List ℕ → List ℕ → List ℕ
-roomOutput vertices out = unlessKept (orShort 0 (length vertices) (length out)) vertices out
-
--- those of the trip asked of
+-- the vertices of the trip asked of
 unfoldable pub askedVertices : Pools → Tables → LegAsked → List ℕ
 askedVertices p t l =
     foundVertices (p .bytes) (p .words) (p .reals) t (tripOf (p .bytes) (p .words) (t .tripkeys) (idOf (p .bytes) (p .words) (l .trip) 0))

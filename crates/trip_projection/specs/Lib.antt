@@ -1,3 +1,2 @@
--- `Vertices`: the vertices of a trip's stops, as words. `Answers`: the operation, with its refusals.
-pub mod Vertices
+-- `Answers`: the operation, with its refusals.
 pub mod Answers

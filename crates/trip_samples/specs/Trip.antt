@@ -11,16 +11,16 @@ use Rattle.lengths.specs.Line.{lineOf}
 use Rattle.lengths.specs.declared.line.Point.{Point}
 use Rattle.trip_rows.specs.Rows.{realOf, stopPoint}
 use Rattle.calibration.specs.Affine.{shapeDistAffine}
--- the sample that row k is
-unfoldable pub sampleAt : List ℕ → List Float → List Float → Course → ℕ → Sample
-sampleAt words reals dists c k = record { at = stopPoint reals (c .stops) (cellOf words (c .times .stop) k); dist = realOf dists (c .times .dist) k }
+use Rattle.unit_scales.specs.declared.metres.Calibrated.{Calibrated}
+use Rattle.unit_scales.specs.declared.metres.Calibrated.the-variants.{Nothing}
 use Rattle.calibration.specs.declared.affine.Sample.{Sample}
 use Rattle.courses.specs.Course.{isFlagged, rowAfter, shapePart}
 use Rattle.sample_rows.specs.Samples.{sampleFrom}
 use Rattle.courses.specs.declared.course.Course.{Course}
 
-use Rattle.unit_scales.specs.declared.metres.Calibrated.{Calibrated}
-use Rattle.unit_scales.specs.declared.metres.Calibrated.the-variants.{Nothing}
+-- the sample that row k is
+unfoldable pub sampleAt : List ℕ → List Float → List Float → Course → ℕ → Sample
+sampleAt words reals dists c k = record { at = stopPoint reals (c .stops) (cellOf words (c .times .stop) k); dist = realOf dists (c .times .dist) k }
 
 -- the line of a shape
 abbrev pub shapeLine : List ℕ → List Float → Course → ℕ → List Point

@@ -5,8 +5,8 @@ use native.Mathlib.Omega.{arith}
 use mathlib.Core.Path.{_≡_, _∙_, sym}
 use lib.Ieee.{nan}
 use Rattle.trip_rows.specs.Rows.{rowPosition}
-use Rattle.trip_projection.specs.Vertices.{positionsFrom}
-use Rattle.backfill.specs.Rows.{rowsOf}
+use Rattle.trip_vertices.specs.Vertices.{positionsFrom}
+use Rattle.row_distances.specs.Rows.{rowsOf}
 use Rattle.backfill.specs.Samples.{endsOf, samplesIn}
 use Rattle.backfill.proofs.Telling.{added, from-none, one-more, no-more}
 use Rattle.backfill.proofs.ends.ends_of.Statement.{statement}

@@ -6,7 +6,7 @@ use mathlib.Core.Bool.{not}
 use borrow.Author.Tests.{eq-eqb, ne-eqb}
 use lib.ListN.{length, drop}
 use Rattle.backfill.specs.Trip.{anyOf, isMeasured}
-use Rattle.backfill.proofs.Columns.{any-hit, any-miss, any-over}
+use Rattle.backfill.proofs.Flags.{any-hit, any-miss, any-over}
 use Rattle.backfill.proofs.rows.any_measured.Statement.{statement}
 use Rattle.backfill.proofs.rows.any_measured.Tie as tie
 

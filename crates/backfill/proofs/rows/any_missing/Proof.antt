@@ -5,7 +5,7 @@ use mathlib.Core.Path.{_≡_, refl, sym, _∙_}
 use borrow.Author.Tests.{eq-eqb, ne-eqb}
 use lib.ListN.{length, drop}
 use Rattle.backfill.specs.Trip.{anyOf, isMissing}
-use Rattle.backfill.proofs.Columns.{any-hit, any-miss, any-over}
+use Rattle.backfill.proofs.Flags.{any-hit, any-miss, any-over}
 use Rattle.backfill.proofs.rows.any_missing.Statement.{statement}
 use Rattle.backfill.proofs.rows.any_missing.Tie as tie
 

@@ -4,8 +4,8 @@ use mathlib.Core.Path.{_∙_, sym, ap}
 use borrow.Author.Tests.{not-true}
 use Rattle.lengths.specs.Line.{lineOf}
 use Rattle.trip_rows.specs.Rows.{rowPosition}
-use Rattle.trip_projection.specs.Vertices.{positionsFrom}
-use Rattle.backfill.specs.Rows.{distsIn, marksIn}
+use Rattle.trip_vertices.specs.Vertices.{positionsFrom}
+use Rattle.row_distances.specs.Rows.{distsIn, marksIn}
 use Rattle.backfill.proofs.Filling.{too-few, none-missing, some-missing}
 use Rattle.backfill.proofs.rows.backfill_rows.Statement.{statement}
 use Rattle.backfill.proofs.rows.backfill_rows.Tie as tie

@@ -1,7 +1,7 @@
 use mathlib.Core.Path.{sym, _∙_}
 use borrow.Author.Tests.{not-true, not-false}
 use Rattle.backfill.specs.Trip.{unitOf}
-use Rattle.backfill.proofs.Columns.{marks-back}
+use Rattle.row_distances.proofs.Columns.{marks-back}
 use Rattle.backfill.proofs.Telling.{ends-tell}
 use Rattle.backfill.proofs.rows.unit_of.Statement.{statement}
 use Rattle.backfill.proofs.rows.unit_of.Tie as tie

@@ -1,5 +1,5 @@
 use native.Mathlib.Omega.{arith}
-use Rattle.backfill.proofs.Columns.{rows-least}
+use Rattle.row_distances.proofs.Columns.{rows-least}
 use Rattle.trip_backfill.proofs.copy.count.Statement.{statement}
 use Rattle.trip_backfill.proofs.copy.count.Tie as tie
 

@@ -5,7 +5,7 @@ use Rattle.tables.specs.Pools.{pools}
 use Rattle.tables.specs.Bounds.{chartBounds}
 use Rattle.lookup_rules.proofs.Parts.{row-ids-good}
 use Rattle.geometry_checks.proofs.Operations.{leg-holds}
-use Rattle.trip_projection.proofs.Rooms.{op-refused, op-given}
+use Rattle.trip_projection.proofs.Refusals.{op-refused, op-given}
 use Rattle.trip_projection.proofs.trip.project_trip.Statement.{statement}
 use Rattle.trip_projection.proofs.trip.project_trip.Tie as tie
 

@@ -1,0 +1,2 @@
+-- What the contracts cite. `Walk`: stops and their rows.
+pub mod Walk
