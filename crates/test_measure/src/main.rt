@@ -30,7 +30,7 @@ fn answer(line: &[u8]) {
     } else if begins(line, b"narrow ") {
         single(ieee::narrow(arg(line, 7)));
     } else if begins(line, b"atan2 ") {
-        double(maths::atan2(arg(line, 6), arg(line, 23)));
+        double(arcs::atan2(arg(line, 6), arg(line, 23)));
     } else if begins(line, b"hypot ") {
         double(maths::hypot(arg(line, 6), arg(line, 23)));
     } else if begins(line, b"max ") {
@@ -49,9 +49,9 @@ fn of_one(line: &[u8]) {
     } else if begins(line, b"cos ") {
         double(maths::cos(arg(line, 4)));
     } else if begins(line, b"atan ") {
-        double(maths::atan(arg(line, 5)));
+        double(arcs::atan(arg(line, 5)));
     } else if begins(line, b"asin ") {
-        double(maths::asin(arg(line, 5)));
+        double(arcs::asin(arg(line, 5)));
     } else if begins(line, b"radians ") {
         double(maths::radians(arg(line, 8)));
     } else if begins(line, b"degrees ") {

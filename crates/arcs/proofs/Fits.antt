@@ -7,7 +7,8 @@ use Rattle.ieee.specs.Number.{absOf}
 use Rattle.roots.specs.Root.{rootOf}
 use Rattle.floats.proofs.Order.{nought, one}
 use Rattle.floats.proofs.Own.{nought-fits}
-use Rattle.maths.specs.Trig.{pi, halfPi, fourTimes, atanOf, angleOf, turnedOf, atan2Of, asinOf}
+use Rattle.maths.specs.Trig.{pi, halfPi}
+use Rattle.arcs.specs.Arcs.{fourTimes, atanOf, angleOf, turnedOf, atan2Of, asinOf}
 
 atan-fits : (t : Float) → T (fits binary64 (atanOf t))
 unfolding atanOf fourTimes

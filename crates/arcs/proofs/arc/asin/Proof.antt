@@ -1,9 +1,9 @@
 use borrow.Author.Needs.{needs}
 use mathlib.Core.Path.{ap, _∙_}
 use lib.Ieee.{ofBits}
-use Rattle.maths.specs.Trig.{asinOf, atan2Of}
-use Rattle.maths.proofs.arc.asin.Statement.{statement}
-use Rattle.maths.proofs.arc.asin.Tie as tie
+use Rattle.arcs.specs.Arcs.{asinOf, atan2Of}
+use Rattle.arcs.proofs.arc.asin.Statement.{statement}
+use Rattle.arcs.proofs.arc.asin.Tie as tie
 
 root-requires : tie.Need-root-requires
 root-requires c κs = search needs

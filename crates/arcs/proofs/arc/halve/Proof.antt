@@ -2,9 +2,9 @@ use borrow.Author.Needs.{needs}
 use mathlib.Core.Path.{ap}
 use lib.Ieee.{Float, binary64, ofBits, add, div}
 use Rattle.ieee.specs.Number.{one}
-use Rattle.maths.specs.Trig.{halveOf}
-use Rattle.maths.proofs.arc.halve.Statement.{statement}
-use Rattle.maths.proofs.arc.halve.Tie as tie
+use Rattle.arcs.specs.Arcs.{halveOf}
+use Rattle.arcs.proofs.arc.halve.Statement.{statement}
+use Rattle.arcs.proofs.arc.halve.Tie as tie
 
 root-requires : tie.Need-root-requires
 root-requires c κs = search needs

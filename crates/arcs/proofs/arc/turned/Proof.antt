@@ -1,7 +1,7 @@
 use lib.Ieee.{ofBits}
-use Rattle.maths.specs.Trig.{turnedOf}
-use Rattle.maths.proofs.arc.turned.Statement.{statement}
-use Rattle.maths.proofs.arc.turned.Tie as tie
+use Rattle.arcs.specs.Arcs.{turnedOf}
+use Rattle.arcs.proofs.arc.turned.Statement.{statement}
+use Rattle.arcs.proofs.arc.turned.Tie as tie
 
 returns : tie.Need-returns
 unfolding turnedOf ofBits

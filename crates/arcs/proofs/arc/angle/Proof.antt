@@ -1,7 +1,7 @@
 use borrow.Author.Needs.{needs}
-use Rattle.maths.specs.Trig.{angleOf}
-use Rattle.maths.proofs.arc.angle.Statement.{statement}
-use Rattle.maths.proofs.arc.angle.Tie as tie
+use Rattle.arcs.specs.Arcs.{angleOf}
+use Rattle.arcs.proofs.arc.angle.Statement.{statement}
+use Rattle.arcs.proofs.arc.angle.Tie as tie
 
 atan-requires : tie.Need-atan-requires
 atan-requires c κs = search needs

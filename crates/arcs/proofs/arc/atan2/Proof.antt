@@ -2,10 +2,10 @@ use borrow.Author.Needs.{needs}
 use mathlib.Core.Path.{_≡_, _∙_}
 use mathlib.Core.Bool.{true, false}
 use lib.Ieee.{Float, ofBits, div, eq, ne}
-use Rattle.maths.specs.Trig.{atan2Of, angleOf, turnedOf}
+use Rattle.arcs.specs.Arcs.{atan2Of, angleOf, turnedOf}
 use Rattle.ieee.specs.Number.{absOf, nought}
-use Rattle.maths.proofs.arc.atan2.Statement.{statement}
-use Rattle.maths.proofs.arc.atan2.Tie as tie
+use Rattle.arcs.proofs.arc.atan2.Statement.{statement}
+use Rattle.arcs.proofs.arc.atan2.Tie as tie
 
 whole : (y x a b g r : Float) → a ≡ absOf y → b ≡ absOf x → g ≡ angleOf a b → r ≡ turnedOf y x g → r ≡ turnedOf y x (angleOf (absOf y) (absOf x))
 whole y x a b g r p q h k = cc

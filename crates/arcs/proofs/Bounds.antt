@@ -21,8 +21,9 @@ use Rattle.floats.proofs.Products.{one-pos, above-one, square-nonneg, div-nonne
 use Rattle.floats.proofs.Whole.{int-one, int-ge-one}
 use Rattle.floats.proofs.Within.{Within, within-finite, within-number, within-neg, within-weaken, within-add, within-sub, within-mul, within-mul-unit, within-div, int-within, within→le, le→within}
 use Rattle.roots.proofs.Roots.{root-number, root-nonneg}
 use Rattle.maths.specs.Series.{whole, onFrom, horner, signOf, atanC}
-use Rattle.maths.specs.Trig.{pi, halfPi, halveOf, fourTimes, atanOf, angleOf, turnedOf, atan2Of, asinOf}
+use Rattle.maths.specs.Trig.{pi, halfPi}
+use Rattle.arcs.specs.Arcs.{halveOf, fourTimes, atanOf, angleOf, turnedOf, atan2Of, asinOf}
 
 -- ---- from 0 to 1
 pub record InUnit (t : Float) : Type 0 where

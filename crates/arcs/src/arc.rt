@@ -1,6 +1,6 @@
 // atan for 0..1, atan2 and asin.
 ghost use mathlib.Core.Path.{_≡_};
-ghost use Rattle.maths.specs.Trig.{halveOf, atanOf, angleOf, turnedOf, atan2Of, asinOf};
+ghost use Rattle.arcs.specs.Arcs.{halveOf, atanOf, angleOf, turnedOf, atan2Of, asinOf};
 
 // The tangent of half the angle whose tangent is t.
 fn halve(t: f64) -> f64

@@ -1,9 +1,9 @@
 use borrow.Author.Needs.{needs}
 use mathlib.Core.Path.{ap, _∙_}
 use lib.Ieee.{ofBits}
-use Rattle.maths.specs.Trig.{atanOf, fourTimes, halveOf}
-use Rattle.maths.proofs.arc.atan.Statement.{statement}
-use Rattle.maths.proofs.arc.atan.Tie as tie
+use Rattle.arcs.specs.Arcs.{atanOf, fourTimes, halveOf}
+use Rattle.arcs.proofs.arc.atan.Statement.{statement}
+use Rattle.arcs.proofs.arc.atan.Tie as tie
 
 halve-requires : tie.Need-halve-requires
 halve-requires c κs = search needs
