@@ -6,7 +6,7 @@ use mathlib.Core.List.{List}
 use borrow.Author.Tests.{eq-eqb, ne-eqb}
 use lib.Ieee.{Float}
 use lib.ListN.{length}
-use Rattle.ieee.specs.Single.{narrowOf}
+use Rattle.float_bits.specs.Single.{narrowOf}
 use Rattle.calibration.specs.declared.affine.Affine.{Affine}
 use Rattle.lengths.specs.Length.{lengthTo}
 use Rattle.lengths.specs.declared.line.Point.{Point}

@@ -4,7 +4,7 @@ use mathlib.Core.Bool.{cond}
 use mathlib.Core.List.{List, [], _∷_, map}
 use lib.Dec.{eqb}
 use lib.Ieee.{Float, binary64, sub, div}
-use Rattle.ieee.specs.Single.{narrowOf}
+use Rattle.float_bits.specs.Single.{narrowOf}
 use Rattle.calibration.specs.declared.affine.Affine.{Affine}
 use Rattle.backfill.specs.declared.row.Distance.{Distance}
 use Rattle.backfill.specs.declared.row.Unit.{Unit}

@@ -1,6 +1,6 @@
 // A row of the stop times as backfill sees it, and what is written into one that has no distance.
 use calibration::Affine;
-use ieee::narrow;
+use float_bits::narrow;
 ghost use mathlib.Core.Path.{_≡_};
 ghost use Rattle.backfill.specs.Rows.{inFeed, filledBy};
 

@@ -4,7 +4,7 @@ ghost use mathlib.Core.Path.{_≡_};
 ghost use lib.Ieee.{isNan};
 ghost use Rattle.ieee.specs.Number.{absOf, maxOf, clamp01Of, leastOf};
 ghost use Rattle.roots.specs.Root.{rootOf};
-ghost use Rattle.ieee.specs.Single.{narrowOf};
+ghost use Rattle.float_bits.specs.Single.{narrowOf};
 ghost use Rattle.maths.specs.Trig.{sinOf, cosOf, hypotOf, radiansOf, degreesOf};
 ghost use Rattle.arcs.specs.Arcs.{atanOf, atan2Of, asinOf};
 
@@ -54,7 +54,7 @@ pub extern "C" fn zebumorn_root(x: f64) -> f64
 pub extern "C" fn zebumorn_narrow(x: f64) -> f32
     ensures { λ r. ⌜ r ≡ narrowOf x ⌝ }
 {
-    ieee::narrow(x)
+    float_bits::narrow(x)
 }
 
 #[no_mangle]

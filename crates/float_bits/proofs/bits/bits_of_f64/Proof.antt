@@ -2,8 +2,8 @@ use borrow.Author.Needs.{needs}
 use mathlib.Core.Path.{sym, ap}
 use lib.Ieee.{binary64, toBits}
 use Rattle.floats.proofs.Nan.{itself, not-itself}
-use Rattle.ieee.proofs.bits.bits_of_f64.Statement.{statement}
-use Rattle.ieee.proofs.bits.bits_of_f64.Tie as tie
+use Rattle.float_bits.proofs.bits.bits_of_f64.Statement.{statement}
+use Rattle.float_bits.proofs.bits.bits_of_f64.Tie as tie
 
 returns : tie.Need-returns
 unfolding toBits

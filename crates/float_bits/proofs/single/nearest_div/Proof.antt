@@ -5,8 +5,8 @@ use native.Mathlib.Numerals.{add-one}
 use native.Mathlib.Omega.{arith}
 use lib.Ieee.{nearest}
 use Rattle.floats.proofs.Compare.{cmp-lt, cmp-gt, cmp-eq}
-use Rattle.ieee.proofs.single.nearest_div.Statement.{statement}
-use Rattle.ieee.proofs.single.nearest_div.Tie as tie
+use Rattle.float_bits.proofs.single.nearest_div.Statement.{statement}
+use Rattle.float_bits.proofs.single.nearest_div.Tie as tie
 
 div-q : tie.Need-div-q
 div-q c = search needs

@@ -2,8 +2,8 @@ use borrow.Author.Needs.{needs}
 use mathlib.Core.Path.{sym}
 use lib.Ieee.{binary64, ofBits, div}
 use Rattle.floats.proofs.Nan.{above-infinity, up-to-infinity}
-use Rattle.ieee.proofs.bits.f64_of.Statement.{statement}
-use Rattle.ieee.proofs.bits.f64_of.Tie as tie
+use Rattle.float_bits.proofs.bits.f64_of.Statement.{statement}
+use Rattle.float_bits.proofs.bits.f64_of.Tie as tie
 
 returns : tie.Need-returns
 unfolding ofBits div

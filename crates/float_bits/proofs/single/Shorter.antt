@@ -15,7 +15,7 @@ use lib.Ieee.Bits.{ofBits-toBits, toBits-lt, nanBits-is, nanBits-above}
 use lib.Ieee.Exact.{HasValue, odd-sign}
 use lib.Ieee.Nearest.{closest, closest-same, nearest-ge}
 use lib.Ieee.Scale.{round-same}
-use Rattle.ieee.specs.Single.{narrowOf, Narrowed}
+use Rattle.float_bits.specs.Single.{narrowOf, Narrowed}
 use Rattle.floats.proofs.Compare.{cmp-lt}
 use Rattle.floats.proofs.Encode.{Full, units-bits, units-inf, inf-bits}
 

@@ -5,11 +5,11 @@ use native.Mathlib.Omega.{arith}
 use mathlib.Core.Bool.{not}
 use lib.Dec.{T}
 use lib.Ieee.{Float, nan, binary32, binary64, fits, isNan, div, ofBits, toBits}
-use Rattle.ieee.specs.Single.{narrowOf}
+use Rattle.float_bits.specs.Single.{narrowOf}
 use Rattle.floats.proofs.Nan.{itself, not-itself, up-to-infinity}
-use Rattle.ieee.proofs.single.Shorter.{no-more, b-lt, clear, signed}
-use Rattle.ieee.proofs.single.narrow.Statement.{statement}
-use Rattle.ieee.proofs.single.narrow.Tie as tie
+use Rattle.float_bits.proofs.single.Shorter.{no-more, b-lt, clear, signed}
+use Rattle.float_bits.proofs.single.narrow.Statement.{statement}
+use Rattle.float_bits.proofs.single.narrow.Tie as tie
 
 none : (x : Float) → x ≡ nan → nan ≡ narrowOf x
 unfolding narrowOf

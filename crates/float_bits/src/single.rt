@@ -2,7 +2,7 @@
 ghost use mathlib.Core.Path.{_≡_};
 ghost use Prim.Native.Nat.{_≤_, _<_};
 ghost use lib.Ieee.Nearest.{closest};
-ghost use Rattle.ieee.specs.Single.{narrowOf, Narrowed};
+ghost use Rattle.float_bits.specs.Single.{narrowOf, Narrowed};
 
 // m / u to the nearest whole number, a tie to the even one.
 fn nearest_div(m: u64, u: u64) -> u64

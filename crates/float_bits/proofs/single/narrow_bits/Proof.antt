@@ -4,9 +4,9 @@ use Prim.Native.Nat.{ℕ, _/_, _≤_, _<_}
 use native.Mathlib.Omega.{arith}
 use lib.Pow.{pow-pos}
 use lib.Ieee.Nearest.{closest}
-use Rattle.ieee.proofs.single.Shorter.{vanishes, tiny, plain, huge, q-le, shl-one, shl-le}
-use Rattle.ieee.proofs.single.narrow_bits.Statement.{statement}
-use Rattle.ieee.proofs.single.narrow_bits.Tie as tie
+use Rattle.float_bits.proofs.single.Shorter.{vanishes, tiny, plain, huge, q-le, shl-one, shl-le}
+use Rattle.float_bits.proofs.single.narrow_bits.Statement.{statement}
+use Rattle.float_bits.proofs.single.narrow_bits.Tie as tie
 
 add-m : tie.Need-add-m
 add-m c = search needs
