@@ -12,8 +12,8 @@ use Rattle.texts.specs.Texts.{holds}
 use Rattle.stop_digits.specs.Stops.{stopDigitsOf}
 use Rattle.key_parts.specs.Words.{lowFeed, highFeed}
 use Rattle.trip_ids.proofs.Firsts.{or-nothing, or-or}
-use Rattle.stop_names.specs.Names.{feedKeys, plainKeys, digitKeys, textKeys, stopKeys, stopAt, firstStop, namedStop}
-use Rattle.stop_names.specs.Words.{placeMark, pointMark}
+use Rattle.stop_keys.specs.Names.{feedKeys, plainKeys, digitKeys, textKeys, stopKeys, stopAt, firstStop, namedStop}
+use Rattle.stop_keys.specs.Words.{placeMark, pointMark}
 use Rattle.stop_rows.specs.declared.lookup.Lookup.{Lookup}
 
 -- the feed, ':' and the name, each put after what stands already

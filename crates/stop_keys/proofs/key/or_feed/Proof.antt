@@ -1,7 +1,7 @@
 use borrow.Author.Needs.{needs}
-use Rattle.stop_names.proofs.Keys.{feed-keys}
-use Rattle.stop_names.proofs.name.or_feed.Statement.{statement}
-use Rattle.stop_names.proofs.name.or_feed.Tie as tie
+use Rattle.stop_keys.proofs.Keys.{feed-keys}
+use Rattle.stop_keys.proofs.key.or_feed.Statement.{statement}
+use Rattle.stop_keys.proofs.key.or_feed.Tie as tie
 
 slice-aggregate-or-stop : tie.Need-slice-aggregate-or-stop
 slice-aggregate-or-stop c = search needs

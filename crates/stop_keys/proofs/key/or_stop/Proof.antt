@@ -1,8 +1,8 @@
 use borrow.Author.Needs.{needs}
 use mathlib.Core.Path.{_∙_, sym}
-use Rattle.stop_names.specs.Names.{stopAt}
-use Rattle.stop_names.proofs.name.or_stop.Statement.{statement}
-use Rattle.stop_names.proofs.name.or_stop.Tie as tie
+use Rattle.stop_keys.specs.Names.{stopAt}
+use Rattle.stop_keys.proofs.key.or_stop.Statement.{statement}
+use Rattle.stop_keys.proofs.key.or_stop.Tie as tie
 
 enum-known-found : tie.Need-enum-known-found
 enum-known-found c = search needs

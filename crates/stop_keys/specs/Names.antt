@@ -14,7 +14,7 @@ use Rattle.stop_digits.specs.Stops.{stopDigitsOf}
 use Rattle.key_parts.specs.Words.{lowFeed, highFeed}
 use Rattle.stop_rows.specs.Rows.{ifPositioned}
 use Rattle.stop_rows.specs.declared.lookup.Lookup.{Lookup}
-use Rattle.stop_names.specs.Words.{placeMark, pointMark}
+use Rattle.stop_keys.specs.Words.{placeMark, pointMark}
 
 -- the keys of digits that begin with the feed
 abbrev pub feedKeys : List ℕ → List ℕ → List (List ℕ)
