@@ -1,12 +1,13 @@
 // When calls arrive and depart.
-use crate::update::moment_or;
 use ids::Span;
 use tables::Updates;
+use update_rows::moment_or;
 ghost use Prim.Native.Nat.{_≤_};
 ghost use mathlib.Core.Path.{_≡_};
 ghost use mathlib.Core.List.{_++_, map};
 ghost use lib.ListN.{length, drop};
-ghost use Rattle.update_rows.specs.Updates.{momentOr, arrivalOf, departureOf};
+ghost use Rattle.update_rows.specs.Updates.{momentOr};
+ghost use Rattle.update_times.specs.Times.{arrivalOf, departureOf};
 
 // Writes a moment for each of the rows.
 fn fill(

@@ -1,12 +1,12 @@
--- `update_rows::moment::fill` meets its contract. The loop's invariant: the moments of the rows so far are written.
+-- `update_times::moment::fill` meets its contract. The loop's invariant: the moments of the rows so far are written.
 use borrow.Author.Needs.{needs}
 use Prim.Native.Nat.{_-_}
 use native.Mathlib.Omega.{arith}
 use lib.ListN.{length}
 use Rattle.update_rows.specs.Updates.{momentOr}
-use Rattle.update_rows.proofs.Writing.{Filled, fill-starts, fill-goes, fill-ends}
-use Rattle.update_rows.proofs.moment.fill.Statement.{statement}
-use Rattle.update_rows.proofs.moment.fill.Tie as tie
+use Rattle.row_lists.proofs.Writing.{Filled, fill-starts, fill-goes, fill-ends}
+use Rattle.update_times.proofs.moment.fill.Statement.{statement}
+use Rattle.update_times.proofs.moment.fill.Tie as tie
 
 abbrev Inv-loop : tie.InvT-loop
 Inv-loop bytes times has own other rows out₀ k₀ out k = Filled (momentOr bytes times has own other) rows out₀ out k

@@ -7,8 +7,8 @@ use mathlib.Core.Bool.{Bool, true, false}
 use mathlib.Core.List.{List, [], _∷_, _++_, map}
 use lib.ListN.{length, getD, set, take, drop, length-append, length-map, length-set}
 use lib.Seq.{length-take-le, take-all, take-suc}
-use Rattle.update_rows.specs.Rows.{passing}
-use Rattle.update_rows.proofs.Rows.{passing-few, takes-row, leaves-row}
+use Rattle.row_lists.specs.Rows.{passing}
+use Rattle.row_lists.proofs.Rows.{passing-few, takes-row, leaves-row}
 
 -- the output whose beginning is xs
 abbrev pub written : List ℕ → List ℕ → List ℕ

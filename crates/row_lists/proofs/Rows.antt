@@ -8,7 +8,7 @@ use mathlib.Core.Bool.{Bool, true, false, cond}
 use mathlib.Core.List.{List, [], _∷_, _++_, append-nil}
 use lib.ListN.{length, getD, length-append, List·getD-append}
 use lib.Seq.{getD-append-add}
-use Rattle.update_rows.specs.Rows.{passing}
+use Rattle.row_lists.specs.Rows.{passing}
 
 module _ (p : ℕ → Bool) where
   taken : (k : ℕ) → p k ≡ true → passing p (suc k) ≡ passing p k ++ (k ∷ [])
