@@ -14,7 +14,7 @@ use Rattle.floats.proofs.Sums.{sub-number, sub-nonneg, sub-le, add-mono-right, 
 use Rattle.floats.proofs.Products.{mul-number, mul-mono-right, mul-nonneg, mul-le}
 use Rattle.floats.proofs.Within.{Within, fits-within, le-within, within-finite, held-power, add-held}
 use Rattle.ieee.specs.Number.{absOf, clamp01Of}
-use Rattle.ieee.specs.Single.{narrowOf}
+use Rattle.float_bits.specs.Single.{narrowOf}
 use Rattle.lengths.specs.declared.line.Point.{Point}
 use Rattle.line_parts.specs.Part.{stretches, wholeOf, lengthFrom}
 use Rattle.first_stretch.specs.Search.{micro, stretchAt}

@@ -13,7 +13,7 @@ use Rattle.refusals.specs.Refuse.{refusalOf}
 use Rattle.tables.specs.declared.lent.Tables.{Tables}
 use Rattle.checks.specs.Operations.{estimateCauses}
 use Rattle.timeline.specs.Turn.{timeAt}
-use Rattle.update_rows.specs.Rows.{passing}
+use Rattle.row_lists.specs.Rows.{passing}
 use Rattle.calls.specs.Calls.{callRows, callArrivals}
 use Rattle.best_rows.specs.Serving.{bestBelow, bestRow}
 use Rattle.sailings.specs.Sailing.{clockOf}

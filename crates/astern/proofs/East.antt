@@ -7,7 +7,8 @@ use Rattle.floats.specs.Number.{nought, one}
 use Rattle.ieee.specs.Number.{absOf}
 use Rattle.roots.specs.Root.{rootOf}
 use Rattle.maths.specs.Series.{horner, onFrom, sinC, cosC, atanC, signOf}
-use Rattle.maths.specs.Trig.{halfPi, radiansOf, degreesOf, sinOf, cosOf, halveOf, fourTimes, atanOf, angleOf, turnedOf, atan2Of}
+use Rattle.maths.specs.Trig.{halfPi, radiansOf, degreesOf, sinOf, cosOf}
+use Rattle.arcs.specs.Arcs.{halveOf, fourTimes, atanOf, angleOf, turnedOf, atan2Of}
 use Rattle.measure.specs.Measure.{bearingOf}
 use Rattle.astern.specs.Case.{east}
 

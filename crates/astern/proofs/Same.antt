@@ -15,7 +15,8 @@ use Rattle.tables.specs.declared.lent.Tables.{Tables}
 use Rattle.tables.specs.declared.lent.Updates.{Updates}
 use Rattle.checks.specs.Operations.{estimateCauses}
 use Rattle.calls.specs.Calls.{reportedOf, updateStop, callStop, callRows, callStops, callArrivals, callDepartures}
-use Rattle.update_rows.specs.Updates.{momentOf, momentAt, momentOr, arrivalOf, departureOf}
+use Rattle.update_rows.specs.Updates.{momentOf, momentAt, momentOr}
+use Rattle.update_times.specs.Times.{arrivalOf, departureOf}
 use Rattle.first_departures.specs.Firsts.{firstBelow, firstDeparture}
 use Rattle.best_rows.specs.Serving.{bestRow}
 use Rattle.calls.proofs.Calls.{call-row}

@@ -28,10 +28,10 @@ use Rattle.geometry_checks.specs.Operations.{geometryCauses}
 use Rattle.checks.specs.Operations.{estimateCauses, tripLookupCauses, calendarTablesCauses}
 use Rattle.paths.specs.declared.path.End.{End}
 use Rattle.stop_rows.specs.Rows.{isPositioned}
-use Rattle.stop_names.specs.Names.{textKeys, stopKeys, stopAt, firstStop, namedStop}
+use Rattle.stop_keys.specs.Names.{textKeys, stopKeys, stopAt, firstStop, namedStop}
 use Rattle.stop_ids.specs.Stops.{stopOf}
 use Rattle.calls.specs.Calls.{reportedOf, updateStop, callStop, callRows, callStops, callArrivals, callDepartures}
-use Rattle.update_rows.specs.Rows.{passing}
+use Rattle.row_lists.specs.Rows.{passing}
 use Rattle.update_rows.specs.Updates.{momentAt, momentOr, isSet, isTimed}
 use Rattle.sailings.specs.Sailing.{sailingTrip}
 use Rattle.ieee.specs.Number.{clamp01Of}

@@ -16,7 +16,7 @@ use Rattle.stop_ids.proofs.Facts.{stop-holds}
 use Rattle.calls.specs.Calls.{updateStop, callStop, isCall, stopOfCall, callRows, callStops}
 use Rattle.update_rows.specs.Updates.{isSet, isTimed}
 use Rattle.calls.specs.declared.stop.Reported.{Reported}
-use Rattle.update_rows.proofs.Rows.{passing-few, Row, rows-pass, rows-ascend}
+use Rattle.row_lists.proofs.Rows.{passing-few, Row, rows-pass, rows-ascend}
 
 -- element k of a list that f is applied to
 at-map : (f : ℕ → ℕ) (xs : List ℕ) (k : ℕ) → k < length xs → getD (map f xs) k 0 ≡ f (getD xs k 0)

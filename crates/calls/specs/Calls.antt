@@ -11,10 +11,11 @@ use Rattle.ids.specs.declared.lookup.Found.{Found}
 use Rattle.ids.specs.declared.lookup.Found.the-variants.{Nothing}
 use Rattle.key_parts.specs.Keys.{baseOf}
 use Rattle.tables.specs.declared.lent.Tables.{Tables}
-use Rattle.stop_names.specs.Names.{Known}
+use Rattle.stop_keys.specs.Names.{Known}
 use Rattle.stop_ids.specs.Stops.{stopOf}
-use Rattle.update_rows.specs.Rows.{passing}
-use Rattle.update_rows.specs.Updates.{isSet, isTimed, arrivalOf, departureOf}
+use Rattle.row_lists.specs.Rows.{passing}
+use Rattle.update_rows.specs.Updates.{isSet, isTimed}
+use Rattle.update_times.specs.Times.{arrivalOf, departureOf}
 use Rattle.calls.specs.declared.stop.Reported.{Reported}
 
 module _ (bytes words : List ℕ) (v : Reported) where

@@ -162,7 +162,7 @@ fn measured(s: &[u8], bytes: &mut [u8], dists: &mut [f32], row: u32) -> Why {
     let Whole::Is(bits) = case_numbers::single(closed(field(s, 6))) else {
         return Why::Token(6);
     };
-    put::dist(dists, layout::CALL_DIST, row, ieee::f32_of(bits));
+    put::dist(dists, layout::CALL_DIST, row, float_bits::f32_of(bits));
     put::byte(bytes, layout::CALL_MEASURED, row, 1);
     Why::Nothing
 }

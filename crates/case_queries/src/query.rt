@@ -37,7 +37,7 @@ pub enum Query {
 // Field i as an f64, or NaN where it is none: `is_real` says which.
 fn real(s: &[u8], i: usize) -> f64 {
     match case_numbers::double(field(s, i)) {
-        Natural::Is(bits) => ieee::f64_of(bits),
+        Natural::Is(bits) => float_bits::f64_of(bits),
         Natural::Nothing => 0.0,
     }
 }
@@ -52,7 +52,7 @@ fn is_real(s: &[u8], i: usize) -> bool {
 // Field i as an f32.
 fn single(s: &[u8], i: usize) -> f32 {
     match case_numbers::single(field(s, i)) {
-        Whole::Is(bits) => ieee::f32_of(bits),
+        Whole::Is(bits) => float_bits::f32_of(bits),
         Whole::Nothing => 0.0,
     }
 }

@@ -44,7 +44,7 @@ fn real(s: &[u8], i: u32, reals: &mut [f64], column: u32, row: u32) -> Why {
     let Natural::Is(bits) = case_numbers::double(field(s, i as usize)) else {
         return Why::Token(i);
     };
-    put::real(reals, column, row, ieee::f64_of(bits));
+    put::real(reals, column, row, float_bits::f64_of(bits));
     Why::Nothing
 }
 

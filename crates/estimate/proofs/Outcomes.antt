@@ -10,7 +10,7 @@ use Rattle.tables.specs.Pools.{Pools}
 use Rattle.tables.specs.declared.lent.Tables.{Tables}
 use Rattle.timeline.specs.Turn.{turnOf}
 use Rattle.calls.specs.Calls.{reportedOf, callRows, callStops, callArrivals, callDepartures}
-use Rattle.update_rows.specs.Updates.{arrivalOf, departureOf}
+use Rattle.update_times.specs.Times.{arrivalOf, departureOf}
 use Rattle.best_rows.specs.Serving.{bestRow}
 use Rattle.sailings.specs.Sailing.{isCancelled, clockOf, sailingTrip}
 use Rattle.voyages.specs.Outcome.{atPin, atTurn, outcomeAt}

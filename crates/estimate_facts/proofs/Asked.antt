@@ -26,7 +26,8 @@ use Rattle.timetable.specs.Timetable.{namedOf, planOf}
 use Rattle.timetable.proofs.Holds.{found-ready, in-reach}
 use Rattle.calls.specs.Calls.{reportedOf, callRows, callStops, callArrivals, callDepartures}
 use Rattle.calls.specs.Calls.{Ready as CallsReady}
-use Rattle.update_rows.specs.Updates.{isSet, isTimed, momentAt, momentOr, arrivalOf, departureOf}
+use Rattle.update_rows.specs.Updates.{isSet, isTimed, momentAt, momentOr}
+use Rattle.update_times.specs.Times.{arrivalOf, departureOf}
 use Rattle.first_departures.specs.Firsts.{leastOf, firstBelow, firstDeparture}
 use Rattle.first_departures.specs.declared.first.Moment.{Moment}
 use Rattle.first_departures.specs.declared.first.Moment.the-variants.{At, Nothing}

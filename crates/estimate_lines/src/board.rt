@@ -30,7 +30,7 @@ fn status(s: Status) {
 
 // The 16 digits of a float's bits.
 fn double(x: f64) {
-    io::print_hex(STDOUT_FILENO, ieee::bits_of_f64(x), 16);
+    io::print_hex(STDOUT_FILENO, float_bits::bits_of_f64(x), 16);
 }
 
 fn bearing(e: Estimate) {

@@ -39,7 +39,7 @@ fn stretch(k: u32, line: Line, w: Way, vertex: usize, t: f64) {
     path(line);
     count(vertex as u64);
     way(w);
-    io::print_hex(STDOUT_FILENO, ieee::bits_of_f64(t), 16);
+    io::print_hex(STDOUT_FILENO, float_bits::bits_of_f64(t), 16);
     text(b")\n");
 }
 

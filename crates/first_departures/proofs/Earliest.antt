@@ -11,7 +11,8 @@ use lib.Dec.{ltb}
 use lib.IntN.{ℤ}
 use Rattle.ids.proofs.ByteOrder.{clash, split}
 use Rattle.tables.specs.declared.lent.Updates.{Updates}
-use Rattle.update_rows.specs.Updates.{isTimed, departureOf}
+use Rattle.update_rows.specs.Updates.{isTimed}
+use Rattle.update_times.specs.Times.{departureOf}
 use Rattle.first_departures.specs.Firsts.{leastOf, earlier, firstBelow}
 use Rattle.first_departures.specs.declared.first.Moment.{Moment}
 use Rattle.first_departures.specs.declared.first.Moment.the-variants.{At, Nothing}

@@ -4,7 +4,8 @@ use mathlib.Core.Bool.{cond}
 use mathlib.Core.List.{List}
 use lib.IntN.{ℤ}
 use Rattle.tables.specs.declared.lent.Updates.{Updates}
-use Rattle.update_rows.specs.Updates.{isTimed, departureOf}
+use Rattle.update_rows.specs.Updates.{isTimed}
+use Rattle.update_times.specs.Times.{departureOf}
 use Rattle.first_departures.specs.declared.first.Moment.{Moment}
 use Rattle.first_departures.specs.declared.first.Moment.the-variants.{At, Nothing}
 

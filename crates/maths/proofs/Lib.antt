@@ -1,4 +1,2 @@
--- How large the answers can get, that they fit, and which are odd.
-pub mod Bounds
-pub mod Fits
+-- Which answers are odd.
 pub mod Odd

@@ -2,15 +2,11 @@
 // order in which document 01 writes them, so that they give the same bits on every machine. Each is
 // equal to a definition of specs/, where the coefficients are given by their rule.
 mod angle; // angle.rt: radians, degrees
-mod arc; // arc.rt: atan for 0..1, atan2, asin
 mod plane; // plane.rt: hypot
 mod sine; // sine.rt: sin, cos
 
 pub use angle::degrees;
 pub use angle::radians;
-pub use arc::asin;
-pub use arc::atan;
-pub use arc::atan2;
 pub use plane::hypot;
 pub use sine::cos;
 pub use sine::sin;

@@ -11,7 +11,7 @@ use Rattle.floats.proofs.Order.{number}
 use Rattle.floats.proofs.Products.{mul-comm}
 use Rattle.floats.proofs.Within.{Within, within-finite, within-mul, int-within}
 use Rattle.maths.specs.Series.{whole}
-use Rattle.maths.proofs.Bounds.{Bounded, bounded-weaken, asin-bounded}
+use Rattle.arcs.proofs.Bounds.{Bounded, bounded-weaken, asin-bounded}
 use Rattle.measure.specs.Measure.{radius, haversinOf, haversineOf}
 
 -- ---- a product with NaN, and one with a bounded value

@@ -9,9 +9,9 @@ use Rattle.roots.specs.Root.{rootOf}
 use Rattle.floats.proofs.Whole.{two, double-either}
 use Rattle.floats.proofs.Within.{within-finite, within-mul, int-within}
 use Rattle.maths.specs.Series.{whole}
-use Rattle.maths.specs.Trig.{asinOf}
-use Rattle.maths.proofs.Bounds.{Bounded, asin-bounded}
-use Rattle.maths.proofs.Fits.{asin-fits}
+use Rattle.arcs.specs.Arcs.{asinOf}
+use Rattle.arcs.proofs.Bounds.{Bounded, asin-bounded}
+use Rattle.arcs.proofs.Fits.{asin-fits}
 use Rattle.measure.specs.Measure.{radius, haversinOf, haversineOf, geoHaversineOf}
 use Rattle.measure.proofs.Lengths.{times-nan, diameter-within}
 

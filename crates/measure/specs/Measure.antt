@@ -3,7 +3,8 @@ use mathlib.Core.Bool.{cond}
 use lib.Ieee.{Float, binary64, add, sub, mul, div, rem}
 use Rattle.roots.specs.Root.{rootOf}
 use Rattle.maths.specs.Series.{whole}
-use Rattle.maths.specs.Trig.{sinOf, cosOf, asinOf, atan2Of, radiansOf, degreesOf}
+use Rattle.maths.specs.Trig.{sinOf, cosOf, radiansOf, degreesOf}
+use Rattle.arcs.specs.Arcs.{asinOf, atan2Of}
 use Rattle.measure.specs.Answer.{Answer, refused, given}
 use Rattle.measure.specs.Globe.{bothOnGlobe}
 

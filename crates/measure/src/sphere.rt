@@ -22,7 +22,7 @@ pub fn haversin(lat1: f64, lon1: f64, c1: f64, lat2: f64, lon2: f64) -> f64
 pub fn way(a: f64) -> f64
     ensures { λ r. ⌜ r ≡ wayOf a ⌝ }
 {
-    2.0 * Globe::RADIUS * maths::asin(roots::root(a))
+    2.0 * Globe::RADIUS * arcs::asin(roots::root(a))
 }
 
 // The length of the way from one position to another, in metres.
@@ -42,6 +42,6 @@ pub fn bearing(lat1: f64, lon1: f64, lat2: f64, lon2: f64) -> f64
     let cos2 = cos(phi2);
     let y = sin(dlon) * cos2;
     let x = cos(phi1) * sin(phi2) - sin(phi1) * cos2 * cos(dlon);
-    let theta = maths::degrees(maths::atan2(y, x));
+    let theta = maths::degrees(arcs::atan2(y, x));
     (theta + 360.0) % 360.0
 }

@@ -4,8 +4,9 @@ ghost use mathlib.Core.Path.{_≡_};
 ghost use lib.Ieee.{isNan};
 ghost use Rattle.ieee.specs.Number.{absOf, maxOf, clamp01Of, leastOf};
 ghost use Rattle.roots.specs.Root.{rootOf};
-ghost use Rattle.ieee.specs.Single.{narrowOf};
-ghost use Rattle.maths.specs.Trig.{sinOf, cosOf, atanOf, atan2Of, asinOf, hypotOf, radiansOf, degreesOf};
+ghost use Rattle.float_bits.specs.Single.{narrowOf};
+ghost use Rattle.maths.specs.Trig.{sinOf, cosOf, hypotOf, radiansOf, degreesOf};
+ghost use Rattle.arcs.specs.Arcs.{atanOf, atan2Of, asinOf};
 
 #[no_mangle]
 pub extern "C" fn zebumorn_is_nan(x: f64) -> bool
@@ -53,7 +54,7 @@ pub extern "C" fn zebumorn_root(x: f64) -> f64
 pub extern "C" fn zebumorn_narrow(x: f64) -> f32
     ensures { λ r. ⌜ r ≡ narrowOf x ⌝ }
 {
-    ieee::narrow(x)
+    float_bits::narrow(x)
 }
 
 #[no_mangle]
@@ -74,14 +75,14 @@ pub extern "C" fn zebumorn_cos(x: f64) -> f64
 pub extern "C" fn zebumorn_atan(x: f64) -> f64
     ensures { λ r. ⌜ r ≡ atanOf x ⌝ }
 {
-    maths::atan(x)
+    arcs::atan(x)
 }
 
 #[no_mangle]
 pub extern "C" fn zebumorn_asin(x: f64) -> f64
     ensures { λ r. ⌜ r ≡ asinOf x ⌝ }
 {
-    maths::asin(x)
+    arcs::asin(x)
 }
 
 #[no_mangle]
@@ -102,7 +103,7 @@ pub extern "C" fn zebumorn_degrees(x: f64) -> f64
 pub extern "C" fn zebumorn_atan2(y: f64, x: f64) -> f64
     ensures { λ r. ⌜ r ≡ atan2Of y x ⌝ }
 {
-    maths::atan2(y, x)
+    arcs::atan2(y, x)
 }
 
 #[no_mangle]

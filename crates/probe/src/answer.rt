@@ -71,10 +71,10 @@ fn of_numbers(q: Query) {
         Query::Sin(x) => double_line(maths::sin(x)),
         Query::Cos(x) => double_line(maths::cos(x)),
         Query::Atan(x) => numbers::atan(x),
-        Query::Asin(x) => double_line(maths::asin(x)),
+        Query::Asin(x) => double_line(arcs::asin(x)),
         Query::Root(x) => double_line(roots::root(x)),
-        Query::Atan2(y, x) => double_line(maths::atan2(y, x)),
-        Query::Narrow(x) => single_line(ieee::narrow(x)),
+        Query::Atan2(y, x) => double_line(arcs::atan2(y, x)),
+        Query::Narrow(x) => single_line(float_bits::narrow(x)),
         Query::Haversine(lat, lon, to_lat, to_lon) => {
             numbers::print_measured(measure::haversine_m(lat, lon, to_lat, to_lon))
         }

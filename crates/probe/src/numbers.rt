@@ -6,7 +6,7 @@ use probe_pools::write::double_line;
 pub(crate) fn atan(x: f64) {
     if 0.0 <= x {
         if x <= 1.0 {
-            double_line(maths::atan(x));
+            double_line(arcs::atan(x));
             return;
         }
     }

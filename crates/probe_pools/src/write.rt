@@ -10,11 +10,11 @@ pub fn count(n: u64) {
 }
 
 pub fn double(x: f64) {
-    io::print_hex(STDOUT_FILENO, ieee::bits_of_f64(x), 16);
+    io::print_hex(STDOUT_FILENO, float_bits::bits_of_f64(x), 16);
 }
 
 pub fn single(x: f32) {
-    io::print_hex(STDOUT_FILENO, ieee::bits_of_f32(x) as u64, 8);
+    io::print_hex(STDOUT_FILENO, float_bits::bits_of_f32(x) as u64, 8);
 }
 
 // A line of one float.

@@ -2,7 +2,7 @@
 use mathlib.Core.Path.{_≡_}
 use borrow.Author.Tests.{eq-eqb, ne-eqb}
 use lib.Ieee.{Float}
-use Rattle.ieee.specs.Single.{narrowOf}
+use Rattle.float_bits.specs.Single.{narrowOf}
 use Rattle.unit_scales.specs.declared.metres.Affine.{Affine}
 use Rattle.row_distances.specs.Rows.{inFeed, filledBy}
 use Rattle.row_distances.specs.declared.row.Distance.{Distance}

@@ -4,7 +4,7 @@ use mathlib.Core.Bool.{cond}
 use mathlib.Core.List.{List, [], _∷_, map}
 use lib.Dec.{eqb}
 use lib.Ieee.{Float, binary64, sub, div}
-use Rattle.ieee.specs.Single.{narrowOf}
+use Rattle.float_bits.specs.Single.{narrowOf}
 use Rattle.unit_scales.specs.declared.metres.Affine.{Affine}
 use Rattle.row_distances.specs.declared.row.Distance.{Distance}
 use Rattle.row_distances.specs.declared.row.Unit.{Unit}

@@ -1,5 +1,5 @@
 // A row of the stop times as backfill sees it, and what is written into one that has no distance.
-use ieee::narrow;
+use float_bits::narrow;
 use unit_scales::Affine;
 ghost use mathlib.Core.Path.{_≡_};
 ghost use Rattle.row_distances.specs.Rows.{inFeed, filledBy};

@@ -3,7 +3,7 @@ use mathlib.Core.Bool.{cond}
 use lib.Ieee.{Float, binary64, add, sub, mul, div, lt, le}
 use Rattle.floats.specs.Number.{one}
 use Rattle.ieee.specs.Number.{absOf, clamp01Of}
-use Rattle.ieee.specs.Single.{narrowOf}
+use Rattle.float_bits.specs.Single.{narrowOf}
 use Rattle.maths.specs.Series.{whole}
 use Rattle.ways.specs.Way.{turnedOf}
 use Rattle.ways.specs.declared.way.Way.{Way}

@@ -3,7 +3,7 @@ ghost use mathlib.Core.Path.{_≡_};
 ghost use Rattle.spans.specs.Span.{spread, spanOf, targetOf, feedMetres};
 use ieee::abs;
 use ieee::clamp01;
-use ieee::narrow;
+use float_bits::narrow;
 use std::num::f32_to_f64_with_nan;
 use ways::Way;
 use ways::turned;

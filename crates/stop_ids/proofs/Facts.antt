@@ -16,7 +16,7 @@ use Rattle.tables.specs.declared.lent.Stops.{Stops}
 use Rattle.trip_ids.specs.Trips.{tripAt, tripOf}
 use Rattle.stop_rows.specs.Rows.{isPositioned, ifPositioned, isRow, rowFrom, stopFrom, rowStop}
 use Rattle.stop_rows.specs.declared.lookup.Lookup.{Lookup}
-use Rattle.stop_names.specs.Names.{stopIn, stopAt, firstStop, stopKeys, namedStop}
+use Rattle.stop_keys.specs.Names.{stopIn, stopAt, firstStop, stopKeys, namedStop}
 use Rattle.stop_ids.specs.Stops.{rowStopOf, stopOf}
 
 either : (f g : Found) (s : ℕ) → orElse f g ≡ At s → (f ≡ At s) ⊎ (g ≡ At s)

@@ -8,7 +8,7 @@ use Rattle.ids.specs.declared.lookup.Found.the-variants.{At, Nothing}
 use Rattle.trip_ids.specs.Trips.{tripOf}
 use Rattle.stop_rows.specs.Rows.{rowStop}
 use Rattle.stop_rows.specs.declared.lookup.Lookup.{Lookup}
-use Rattle.stop_names.specs.Names.{namedStop}
+use Rattle.stop_keys.specs.Names.{namedStop}
 
 module _ (bytes words : List ℕ) (l : Lookup) where
   -- the stop at a sequence in the trip found

@@ -9,7 +9,7 @@ ghost use mathlib.Core.Bool.{true, cond};
 ghost use mathlib.Core.Path.{_≡_};
 ghost use lib.ListN.{length};
 ghost use Rattle.ids.specs.declared.lookup.Found.the-variants.{Nothing};
-ghost use Rattle.stop_names.specs.Names.{Known, namedStop};
+ghost use Rattle.stop_keys.specs.Names.{Known, namedStop};
 ghost use Rattle.stop_ids.specs.Stops.{rowStopOf, stopOf};
 
 // By its name, if it has one.

@@ -77,6 +77,6 @@ fn row(dist: f32, measured: u8) {
         io::write_all(STDOUT_FILENO, b"- ");
         return;
     }
-    io::print_decimal(STDOUT_FILENO, ieee::bits_of_f32(dist) as u64);
+    io::print_decimal(STDOUT_FILENO, float_bits::bits_of_f32(dist) as u64);
     io::write_all(STDOUT_FILENO, b" ");
 }

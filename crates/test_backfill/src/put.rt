@@ -44,7 +44,7 @@ fn real(pool: &mut [f64], at: usize, n: u64) {
     if pool.len() <= at {
         return;
     }
-    pool[at] = ieee::f64_of(n);
+    pool[at] = float_bits::f64_of(n);
 }
 
 fn dist(pool: &mut [f32], at: usize, n: u64) {
@@ -54,5 +54,5 @@ fn dist(pool: &mut [f32], at: usize, n: u64) {
     if 0xffff_ffff < n {
         return;
     }
-    pool[at] = ieee::f32_of(n as u32);
+    pool[at] = float_bits::f32_of(n as u32);
 }

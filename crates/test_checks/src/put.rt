@@ -128,7 +128,7 @@ fn real(pool: &mut [f64], at: usize, n: u64) -> bool {
     if pool.len() <= at {
         return false;
     }
-    pool[at] = ieee::f64_of(n);
+    pool[at] = float_bits::f64_of(n);
     true
 }
 
@@ -139,6 +139,6 @@ fn dist(pool: &mut [f32], at: usize, n: u64) -> bool {
     if 0xffff_ffff < n {
         return false;
     }
-    pool[at] = ieee::f32_of(n as u32);
+    pool[at] = float_bits::f32_of(n as u32);
     true
 }

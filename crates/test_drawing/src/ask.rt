@@ -130,5 +130,5 @@ fn tell_row(column: &[f64], k: usize) {
         return;
     }
     io::write_all(STDOUT_FILENO, b" ");
-    io::print_hex(STDOUT_FILENO, ieee::bits_of_f64(column[k]), 16);
+    io::print_hex(STDOUT_FILENO, float_bits::bits_of_f64(column[k]), 16);
 }

@@ -75,7 +75,7 @@ fn act(bytes: &mut [u8], words: &mut [u32], reals: &mut [f64], s: Script) -> Scr
             s.after(0, 1, 0)
         }
         b'r' => {
-            put_real(reals, s.reals, ieee::f64_of(s.number));
+            put_real(reals, s.reals, float_bits::f64_of(s.number));
             s.after(0, 0, 1)
         }
         b'?' => {

@@ -3,11 +3,11 @@ use lengths::Point;
 use projection::Position;
 
 pub(crate) fn double(words: &[u8], at: usize) -> f64 {
-    ieee::f64_of(questions::number(words, at, 16))
+    float_bits::f64_of(questions::number(words, at, 16))
 }
 
 pub(crate) fn single(words: &[u8], at: usize) -> f32 {
-    ieee::f32_of(questions::number(words, at, 8) as u32)
+    float_bits::f32_of(questions::number(words, at, 8) as u32)
 }
 
 pub(crate) fn index(words: &[u8], at: usize) -> usize {

@@ -50,7 +50,7 @@ fn none() {
 }
 
 fn digits(x: f64) {
-    io::print_hex(STDOUT_FILENO, ieee::bits_of_f64(x), 16);
+    io::print_hex(STDOUT_FILENO, float_bits::bits_of_f64(x), 16);
 }
 
 pub(crate) fn text(s: &[u8]) {

@@ -28,9 +28,9 @@ fn answer(line: &[u8]) {
     } else if begins(line, b"bearing ") {
         measured(measure::bearing_deg(arg(line, 8), arg(line, 25), arg(line, 42), arg(line, 59)));
     } else if begins(line, b"narrow ") {
-        single(ieee::narrow(arg(line, 7)));
+        single(float_bits::narrow(arg(line, 7)));
     } else if begins(line, b"atan2 ") {
-        double(maths::atan2(arg(line, 6), arg(line, 23)));
+        double(arcs::atan2(arg(line, 6), arg(line, 23)));
     } else if begins(line, b"hypot ") {
         double(maths::hypot(arg(line, 6), arg(line, 23)));
     } else if begins(line, b"max ") {
@@ -49,9 +49,9 @@ fn of_one(line: &[u8]) {
     } else if begins(line, b"cos ") {
         double(maths::cos(arg(line, 4)));
     } else if begins(line, b"atan ") {
-        double(maths::atan(arg(line, 5)));
+        double(arcs::atan(arg(line, 5)));
     } else if begins(line, b"asin ") {
-        double(maths::asin(arg(line, 5)));
+        double(arcs::asin(arg(line, 5)));
     } else if begins(line, b"radians ") {
         double(maths::radians(arg(line, 8)));
     } else if begins(line, b"degrees ") {
@@ -67,7 +67,7 @@ fn of_one(line: &[u8]) {
 
 // The f64 whose sixteen hexadecimal digits begin at `at`; a digit that is missing counts as 0.
 fn arg(line: &[u8], at: usize) -> f64 {
-    ieee::f64_of(questions::number(line, at, 16))
+    float_bits::f64_of(questions::number(line, at, 16))
 }
 
 fn measured(m: Measured) {
@@ -80,11 +80,11 @@ fn measured(m: Measured) {
 }
 
 fn double(x: f64) {
-    io::print_hex(STDOUT_FILENO, ieee::bits_of_f64(x), 16);
+    io::print_hex(STDOUT_FILENO, float_bits::bits_of_f64(x), 16);
     io::write_all(STDOUT_FILENO, b"\n");
 }
 
 fn single(x: f32) {
-    io::print_hex(STDOUT_FILENO, ieee::bits_of_f32(x) as u64, 8);
+    io::print_hex(STDOUT_FILENO, float_bits::bits_of_f32(x) as u64, 8);
     io::write_all(STDOUT_FILENO, b"\n");
 }

@@ -1,3 +1,2 @@
--- `Rows`: rows that pass a test. `Updates`: what a row of the updates says.
-pub mod Rows
+-- `Updates`: what a row of the updates says.
 pub mod Updates

@@ -30,11 +30,3 @@ module _ (bytes : List ℕ) (u : Updates) where
   -- row k has a time
   unfoldable pub isTimed : ℕ → Bool
   isTimed k = isSet bytes (u .arrives) k || isSet bytes (u .departs) k
-
-  module _ (times : List ℤ) where
-    -- when row k arrives and when it departs
-    abbrev pub arrivalOf : ℕ → ℕ
-    arrivalOf k = momentOr bytes times (u .arrives) (u .arrival) (u .departure) k
-
-    abbrev pub departureOf : ℕ → ℕ
-    departureOf k = momentOr bytes times (u .departs) (u .departure) (u .arrival) k

@@ -1,9 +1,6 @@
 // What the rows of a sailing's updates say, over the lent tables: their times.
-mod moment; // when rows arrive and depart
 mod update; // what a row says
 
-pub use moment::fill_arrivals;
-pub use moment::fill_departures;
 pub use update::is_set;
 pub use update::is_timed;
 pub use update::moment_at;

@@ -6,7 +6,7 @@ use mathlib.Core.Path.{_≡_, _∙_, ap, sym}
 use Rattle.ids.specs.First.{isAt, orAt}
 use Rattle.calls.specs.Calls.{isCall, stopOfCall, callRows, callStops}
 use Rattle.calls.proofs.Calls.{stop-fits}
-use Rattle.update_rows.proofs.Writing.{Collected, collect-starts, collect-few, collect-leaves, collect-takes}
+use Rattle.row_lists.proofs.Writing.{Collected, collect-starts, collect-few, collect-leaves, collect-takes}
 use Rattle.calls.proofs.call.collect.Statement.{statement}
 use Rattle.calls.proofs.call.collect.Tie as tie
 

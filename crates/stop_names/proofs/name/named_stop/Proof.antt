@@ -2,7 +2,7 @@ use borrow.Author.Needs.{needs}
 use native.Mathlib.Omega.{arith}
 use mathlib.Core.Path.{_∙_, sym}
 use lib.Seq.{length-take-le}
-use Rattle.stop_names.proofs.Keys.{own-keys, feed-too, composed}
+use Rattle.stop_keys.proofs.Keys.{own-keys, feed-too, composed}
 use Rattle.stop_names.proofs.name.named_stop.Statement.{statement}
 use Rattle.stop_names.proofs.name.named_stop.Tie as tie
 

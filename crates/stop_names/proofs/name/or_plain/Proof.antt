@@ -1,5 +1,5 @@
 use borrow.Author.Needs.{needs}
-use Rattle.stop_names.proofs.Keys.{plain-keys}
+use Rattle.stop_keys.proofs.Keys.{plain-keys}
 use Rattle.stop_names.proofs.name.or_plain.Statement.{statement}
 use Rattle.stop_names.proofs.name.or_plain.Tie as tie
 

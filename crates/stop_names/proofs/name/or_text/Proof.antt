@@ -1,6 +1,6 @@
 use borrow.Author.Needs.{needs}
 use borrow.Author.Tests.{eq-eqb, ne-eqb}
-use Rattle.stop_names.proofs.Keys.{no-digits, some-digits}
+use Rattle.stop_keys.proofs.Keys.{no-digits, some-digits}
 use Rattle.stop_names.proofs.name.or_text.Statement.{statement}
 use Rattle.stop_names.proofs.name.or_text.Tie as tie
 

@@ -1,0 +1,2 @@
+-- `Arcs`: the stand-ins for the arcs.
+pub mod Arcs

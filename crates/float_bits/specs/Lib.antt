@@ -1,0 +1,2 @@
+-- `Single`: an f64 as the nearest f32.
+pub mod Single

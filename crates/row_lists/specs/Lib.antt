@@ -1,0 +1,2 @@
+-- `Rows`: rows that pass a test.
+pub mod Rows

@@ -1,0 +1,2 @@
+-- `Keys`: the keys of a stop's name, one after the other.
+pub mod Keys

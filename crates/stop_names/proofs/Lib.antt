@@ -1,2 +1,0 @@
--- `Keys`: the keys of a name, one after the other.
-pub mod Keys

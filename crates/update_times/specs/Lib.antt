@@ -1,0 +1,2 @@
+-- `Times`: when a row arrives and departs.
+pub mod Times
