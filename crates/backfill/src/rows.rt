@@ -1,13 +1,13 @@
 // The rows of one trip.
 use crate::ends::Ends;
 use crate::ends::ends_of;
-use unit_scales::Calibrated;
 use calibration::shape_dist_affine;
 use filled_rows::fill;
 use lengths::vertices;
 use row_distances::Unit;
 use tables::StopTimes;
 use tables::Stops;
+use unit_scales::Calibrated;
 ghost use mathlib.Core.Path.{_≡_};
 ghost use lib.ListN.{length};
 ghost use Rattle.lengths.specs.Line.{lineOf};

@@ -1,9 +1,9 @@
 // Two distances along a line, in metres, and the way that it is sailed between them.
 ghost use mathlib.Core.Path.{_≡_};
 ghost use Rattle.spans.specs.Span.{spread, spanOf, targetOf, feedMetres};
+use float_bits::narrow;
 use ieee::abs;
 use ieee::clamp01;
-use float_bits::narrow;
 use std::num::f32_to_f64_with_nan;
 use ways::Way;
 use ways::turned;

@@ -1,6 +1,5 @@
 // The metres along its line that a trip's distances stand for.
 use crate::row::sample;
-use unit_scales::Calibrated;
 use calibration::shape_dist_affine;
 use courses::Course;
 use courses::flagged;
@@ -9,6 +8,7 @@ use courses::shape_lon;
 use ids::Found;
 use sample_rows::first_sample;
 use sample_rows::last_sample;
+use unit_scales::Calibrated;
 ghost use mathlib.Core.Path.{_≡_};
 ghost use Rattle.trip_samples.specs.Trip.{rowsAffine, tripAffine};
 

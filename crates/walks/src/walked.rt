@@ -1,5 +1,4 @@
 // The walk along a leg's path at a fraction of it.
-use spans::Span;
 use by_distance::spot_over;
 use chain_stretches::on_two;
 use chains::chain_walk;
@@ -17,10 +16,11 @@ use paths::End;
 use paths::Path;
 use polylines::spot_along;
 use routes::Route;
+use spans::Span;
 use stretches::Spot;
-use ways::Way;
 use stretches::draw;
 use trip_rows::shape_column;
+use ways::Way;
 ghost use mathlib.Core.Path.{_≡_};
 ghost use Prim.Native.Nat.{_≤_};
 ghost use Rattle.lengths.specs.Line.{lineOf};
