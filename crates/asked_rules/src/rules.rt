@@ -1,7 +1,9 @@
 // The rules of what matching, a calendar or a leg is asked of.
 use faults::Test;
 use ids::Span;
-use refusals::Rule;
+use refusals::all_named;
+use refusals::named;
+use refusals::tested;
 use tables::Bounds;
 use tables::Journey;
 use tables::LegAsked;
@@ -9,7 +11,8 @@ use tables::Mark;
 use tables::Pool;
 use tables::Service;
 ghost use mathlib.Core.Path.{_≡_};
-ghost use Rattle.refusals.specs.Refuse.{causesIn};
+ghost use Rattle.tables.specs.Pools.{pools};
+ghost use Rattle.refusals.specs.Refuse.{leastOf};
 ghost use Rattle.asked_rules.specs.Parts.{journeyCauses, serviceCauses, legAskedCauses};
 
 // Each row has a value.
@@ -19,8 +22,17 @@ const ALL: Mark = Mark {
 };
 
 // What matching is asked of.
-pub fn journey(b: Bounds, j: Journey) -> [Rule; 9]
-    ensures { λ r. ⌜ causesIn r ≡ journeyCauses b j ⌝ }
+pub fn journey(
+    bytes: &[u8],
+    words: &[u32],
+    times: &[i64],
+    reals: &[f64],
+    dists: &[f32],
+    best: u32,
+    b: Bounds,
+    j: Journey,
+) -> u32
+    ensures { λ r. ⌜ r ≡ leastOf (pools (now (bytes .entry)) (now (words .entry)) (now (times .entry)) (now (reals .entry)) (now (dists .entry))) best (journeyCauses b j) ⌝ }
 {
     let key = j.key;
     let route = j.route;
@@ -36,53 +48,84 @@ pub fn journey(b: Bounds, j: Journey) -> [Rule; 9]
         all: false,
         flags: departs,
     };
-    [
-        Rule::Names(key, ALL, false, 1, b.id),
-        Rule::Names(route, set_routed, false, 1, b.id),
-        Rule::One(1, Test::Column(Pool::Bytes, routed, 1)),
-        Rule::One(1, Test::Column(Pool::Times, departure, 1)),
-        Rule::One(1, Test::Column(Pool::Bytes, departs, 1)),
-        Rule::One(1, Test::Column(Pool::Times, offset, 1)),
-        Rule::One(6, Test::Moment(departure, set_departs)),
-        Rule::One(6, Test::Offset(offset)),
-        Rule::Nothing,
-    ]
+    let best1 = all_named(bytes, words, times, reals, dists, best, key, 1, b.id);
+    let best2 = named(
+        bytes,
+        words,
+        times,
+        reals,
+        dists,
+        best1,
+        route,
+        set_routed,
+        false,
+        1,
+        b.id,
+    );
+    let mut test = Test::Column(Pool::Bytes, routed, 1);
+    let best3 = tested(bytes, words, times, reals, dists, best2, 1, test);
+    test = Test::Column(Pool::Times, departure, 1);
+    let best4 = tested(bytes, words, times, reals, dists, best3, 1, test);
+    test = Test::Column(Pool::Bytes, departs, 1);
+    let best5 = tested(bytes, words, times, reals, dists, best4, 1, test);
+    test = Test::Column(Pool::Times, offset, 1);
+    let best6 = tested(bytes, words, times, reals, dists, best5, 1, test);
+    test = Test::Moment(departure, set_departs);
+    let best7 = tested(bytes, words, times, reals, dists, best6, 6, test);
+    test = Test::Offset(offset);
+    tested(bytes, words, times, reals, dists, best7, 6, test)
 }
 
 // What a calendar is asked of.
-pub fn service(b: Bounds, s: Service) -> [Rule; 9]
-    ensures { λ r. ⌜ causesIn r ≡ serviceCauses b s ⌝ }
+pub fn service(
+    bytes: &[u8],
+    words: &[u32],
+    times: &[i64],
+    reals: &[f64],
+    dists: &[f32],
+    best: u32,
+    b: Bounds,
+    s: Service,
+) -> u32
+    ensures { λ r. ⌜ r ≡ leastOf (pools (now (bytes .entry)) (now (words .entry)) (now (times .entry)) (now (reals .entry)) (now (dists .entry))) best (serviceCauses b s) ⌝ }
 {
     let feed = s.feed;
     let service = s.service;
     let date = s.date;
-    [
-        Rule::Names(feed, ALL, false, 1, b.id),
-        Rule::Names(service, ALL, false, 1, b.id),
-        Rule::One(1, Test::Column(Pool::Words, date, 1)),
-        Rule::One(10, Test::NoDate(date)),
-        Rule::Nothing,
-        Rule::Nothing,
-        Rule::Nothing,
-        Rule::Nothing,
-        Rule::Nothing,
-    ]
+    let dates = Test::Column(Pool::Words, date, 1);
+    let days = Test::NoDate(date);
+    let best1 = all_named(bytes, words, times, reals, dists, best, feed, 1, b.id);
+    let best2 = all_named(bytes, words, times, reals, dists, best1, service, 1, b.id);
+    let best3 = tested(bytes, words, times, reals, dists, best2, 1, dates);
+    tested(bytes, words, times, reals, dists, best3, 10, days)
 }
 
 // The trip that a leg is asked of.
-pub fn leg_asked(b: Bounds, l: LegAsked) -> [Rule; 9]
-    ensures { λ r. ⌜ causesIn r ≡ legAskedCauses b l ⌝ }
+pub fn leg_asked(
+    bytes: &[u8],
+    words: &[u32],
+    times: &[i64],
+    reals: &[f64],
+    dists: &[f32],
+    best: u32,
+    b: Bounds,
+    l: LegAsked,
+) -> u32
+    ensures { λ r. ⌜ r ≡ leastOf (pools (now (bytes .entry)) (now (words .entry)) (now (times .entry)) (now (reals .entry)) (now (dists .entry))) best (legAskedCauses b l) ⌝ }
 {
     let trip = l.trip;
-    [
-        Rule::Names(trip, ALL, false, 1, b.id),
-        Rule::Nothing,
-        Rule::Nothing,
-        Rule::Nothing,
-        Rule::Nothing,
-        Rule::Nothing,
-        Rule::Nothing,
-        Rule::Nothing,
-        Rule::Nothing,
-    ]
+    let empty = false;
+    named(
+        bytes,
+        words,
+        times,
+        reals,
+        dists,
+        best,
+        trip,
+        ALL,
+        empty,
+        1,
+        b.id,
+    )
 }

@@ -1,6 +1,5 @@
 // Each operation's check: the least refusal over the rules of every table that is lent to it.
 use geometry_checks::check_geometry;
-use refusals::least;
 use tables::Bounds;
 use tables::Journey;
 use tables::Service;
@@ -26,12 +25,9 @@ fn in_calendar_tables(
     let calendars = t.calendars;
     let ranges = t.ranges;
     let exceptions = t.exceptions;
-    let r1 = calendar_rules::calendars(b, calendars);
-    let best1 = least(bytes, words, times, reals, dists, best, r1);
-    let r2 = calendar_rules::ranges(b, ranges);
-    let best2 = least(bytes, words, times, reals, dists, best1, r2);
-    let r3 = calendar_rules::exceptions(b, exceptions);
-    least(bytes, words, times, reals, dists, best2, r3)
+    let best1 = calendar_rules::calendars(bytes, words, times, reals, dists, best, b, calendars);
+    let best2 = calendar_rules::ranges(bytes, words, times, reals, dists, best1, b, ranges);
+    calendar_rules::exceptions(bytes, words, times, reals, dists, best2, b, exceptions)
 }
 
 // What a trip is looked up by: trip ids, aliases, lines.
@@ -52,12 +48,20 @@ fn in_trip_lookup(
     let aliases = t.aliases;
     let lines = t.lines;
     let n = trips.first.n;
-    let r1 = lookup_rules::id_rows(b, tripkeys, b.trips, n);
-    let best1 = least(bytes, words, times, reals, dists, best, r1);
-    let r2 = lookup_rules::aliases(b, aliases);
-    let best2 = least(bytes, words, times, reals, dists, best1, r2);
-    let r3 = lookup_rules::lines(b, lines, n);
-    least(bytes, words, times, reals, dists, best2, r3)
+    let best1 = lookup_rules::id_rows(
+        bytes,
+        words,
+        times,
+        reals,
+        dists,
+        best,
+        b,
+        tripkeys,
+        b.trips,
+        n,
+    );
+    let best2 = lookup_rules::aliases(bytes, words, times, reals, dists, best1, b, aliases);
+    lookup_rules::lines(bytes, words, times, reals, dists, best2, b, lines, n)
 }
 
 // The first refusal of whether a service runs, or 0: the calendar tables, and the service asked of.
@@ -74,8 +78,7 @@ pub fn check_service(
     ensures { λ r. ⌜ r ≡ refusalOf (pools (now (bytes .entry)) (now (words .entry)) (now (times .entry)) (now (reals .entry)) (now (dists .entry))) (serviceDayCauses b t s) ⌝ }
 {
     let best1 = in_calendar_tables(bytes, words, times, reals, dists, 0, b, t);
-    let r2 = asked_rules::service(b, s);
-    least(bytes, words, times, reals, dists, best1, r2)
+    asked_rules::service(bytes, words, times, reals, dists, best1, b, s)
 }
 
 // The first refusal of trip matching, or 0: trips, stop times, what a trip is looked up by, the calendar tables, and
@@ -95,16 +98,12 @@ pub fn check_matching(
     let trips = t.trips;
     let calls = t.times;
     let rows = calls.stop.n;
-    let r1 = schedule_rules::trips(b, trips, rows);
-    let best1 = least(bytes, words, times, reals, dists, 0, r1);
-    let r2 = schedule_rules::calls(b, calls);
-    let best2 = least(bytes, words, times, reals, dists, best1, r2);
-    let r3 = schedule_rules::call_times(calls);
-    let best3 = least(bytes, words, times, reals, dists, best2, r3);
+    let best1 = schedule_rules::trips(bytes, words, times, reals, dists, 0, b, trips, rows);
+    let best2 = schedule_rules::calls(bytes, words, times, reals, dists, best1, b, calls);
+    let best3 = schedule_rules::call_times(bytes, words, times, reals, dists, best2, calls);
     let best4 = in_trip_lookup(bytes, words, times, reals, dists, best3, b, t);
     let best5 = in_calendar_tables(bytes, words, times, reals, dists, best4, b, t);
-    let r6 = asked_rules::journey(b, j);
-    least(bytes, words, times, reals, dists, best5, r6)
+    asked_rules::journey(bytes, words, times, reals, dists, best5, b, j)
 }
 
 // The first refusal of the estimate, or 0: every table.
@@ -125,18 +124,23 @@ pub fn check_estimate(
     let updates = t.updates;
     let sailing = t.sailing;
     let best1 = check_geometry(bytes, words, times, reals, dists, b, t);
-    let r2 = schedule_rules::call_times(calls);
-    let best2 = least(bytes, words, times, reals, dists, best1, r2);
-    let r3 = lookup_rules::id_rows(b, stopkeys, b.stops, stops.lat.n);
-    let best3 = least(bytes, words, times, reals, dists, best2, r3);
+    let best2 = schedule_rules::call_times(bytes, words, times, reals, dists, best1, calls);
+    let best3 = lookup_rules::id_rows(
+        bytes,
+        words,
+        times,
+        reals,
+        dists,
+        best2,
+        b,
+        stopkeys,
+        b.stops,
+        stops.lat.n,
+    );
     let best4 = in_trip_lookup(bytes, words, times, reals, dists, best3, b, t);
     let best5 = in_calendar_tables(bytes, words, times, reals, dists, best4, b, t);
-    let r6 = update_rules::updates(b, updates);
-    let best6 = least(bytes, words, times, reals, dists, best5, r6);
-    let r7 = update_rules::arrivals(updates);
-    let best7 = least(bytes, words, times, reals, dists, best6, r7);
-    let r8 = update_rules::update_departures(updates);
-    let best8 = least(bytes, words, times, reals, dists, best7, r8);
-    let r9 = update_rules::sailing(b, sailing);
-    least(bytes, words, times, reals, dists, best8, r9)
+    let best6 = update_rules::updates(bytes, words, times, reals, dists, best5, b, updates);
+    let best7 = update_rules::arrivals(bytes, words, times, reals, dists, best6, updates);
+    let best8 = update_rules::update_departures(bytes, words, times, reals, dists, best7, updates);
+    update_rules::sailing(bytes, words, times, reals, dists, best8, b, sailing)
 }

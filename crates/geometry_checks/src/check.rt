@@ -1,5 +1,4 @@
 // Each operation's check: the least refusal over the rules of every table that is lent to it.
-use refusals::least;
 use tables::Along;
 use tables::Bounds;
 use tables::LegAsked;
@@ -27,18 +26,43 @@ pub fn check_geometry(
     let calls = t.times;
     let shapes = t.shapes;
     let points = t.points;
-    let r1 = schedule_rules::stops(b, stops);
-    let best1 = least(bytes, words, times, reals, dists, 0, r1);
-    let r2 = schedule_rules::trips(b, trips, calls.stop.n);
-    let best2 = least(bytes, words, times, reals, dists, best1, r2);
-    let r3 = schedule_rules::calls(b, calls);
-    let best3 = least(bytes, words, times, reals, dists, best2, r3);
-    let r4 = schedule_rules::placing(trips, calls, shapes.first.n, stops.lat.n);
-    let best4 = least(bytes, words, times, reals, dists, best3, r4);
-    let r5 = shape_rules::shapes(b, shapes, points.lat.n);
-    let best5 = least(bytes, words, times, reals, dists, best4, r5);
-    let r6 = shape_rules::points(points);
-    least(bytes, words, times, reals, dists, best5, r6)
+    let best1 = schedule_rules::stops(bytes, words, times, reals, dists, 0, b, stops);
+    let best2 = schedule_rules::trips(
+        bytes,
+        words,
+        times,
+        reals,
+        dists,
+        best1,
+        b,
+        trips,
+        calls.stop.n,
+    );
+    let best3 = schedule_rules::calls(bytes, words, times, reals, dists, best2, b, calls);
+    let best4 = schedule_rules::placing(
+        bytes,
+        words,
+        times,
+        reals,
+        dists,
+        best3,
+        trips,
+        calls,
+        shapes.first.n,
+        stops.lat.n,
+    );
+    let best5 = shape_rules::shapes(
+        bytes,
+        words,
+        times,
+        reals,
+        dists,
+        best4,
+        b,
+        shapes,
+        points.lat.n,
+    );
+    shape_rules::points(bytes, words, times, reals, dists, best5, points)
 }
 
 // The first refusal of leg drawing, or 0: the same, the trip ids, and the trip asked of.
@@ -57,10 +81,19 @@ pub fn check_leg(
     let tripkeys = t.tripkeys;
     let n = t.trips.first.n;
     let best1 = check_geometry(bytes, words, times, reals, dists, b, t);
-    let r2 = lookup_rules::id_rows(b, tripkeys, b.trips, n);
-    let best2 = least(bytes, words, times, reals, dists, best1, r2);
-    let r3 = asked_rules::leg_asked(b, l);
-    least(bytes, words, times, reals, dists, best2, r3)
+    let best2 = lookup_rules::id_rows(
+        bytes,
+        words,
+        times,
+        reals,
+        dists,
+        best1,
+        b,
+        tripkeys,
+        b.trips,
+        n,
+    );
+    asked_rules::leg_asked(bytes, words, times, reals, dists, best2, b, l)
 }
 
 // The first refusal of interpolation alone, or 0: the line, the ends of a leg, distances and numbers.
@@ -79,12 +112,9 @@ pub fn check_interpolation(
     let ends = a.ends;
     let ds = a.dists;
     let numbers = a.numbers;
-    let r1 = shape_rules::points_within(line, b.points);
-    let best1 = least(bytes, words, times, reals, dists, 0, r1);
-    let r2 = shape_rules::points(ends);
-    let best2 = least(bytes, words, times, reals, dists, best1, r2);
-    let r3 = shape_rules::measures(ds, numbers, ds.n);
-    least(bytes, words, times, reals, dists, best2, r3)
+    let best1 = shape_rules::points_within(bytes, words, times, reals, dists, 0, line, b.points);
+    let best2 = shape_rules::points(bytes, words, times, reals, dists, best1, ends);
+    shape_rules::measures(bytes, words, times, reals, dists, best2, ds, numbers, ds.n)
 }
 
 // The first refusal of calibration alone, or 0: the line, samples and numbers.
@@ -103,10 +133,17 @@ pub fn check_calibration(
     let at = s.at;
     let dist = s.dist;
     let numbers = s.numbers;
-    let r1 = shape_rules::points_within(line, b.points);
-    let best1 = least(bytes, words, times, reals, dists, 0, r1);
-    let r2 = shape_rules::points_within(at, b.calls);
-    let best2 = least(bytes, words, times, reals, dists, best1, r2);
-    let r3 = shape_rules::measures(dist, numbers, at.lat.n);
-    least(bytes, words, times, reals, dists, best2, r3)
+    let best1 = shape_rules::points_within(bytes, words, times, reals, dists, 0, line, b.points);
+    let best2 = shape_rules::points_within(bytes, words, times, reals, dists, best1, at, b.calls);
+    shape_rules::measures(
+        bytes,
+        words,
+        times,
+        reals,
+        dists,
+        best2,
+        dist,
+        numbers,
+        at.lat.n,
+    )
 }

@@ -3,12 +3,13 @@
 use crate::lent::JourneyLegs;
 use faults::Test;
 use ids::Span;
-use refusals::Rule;
+use refusals::tested;
 use tables::Bounds;
 use tables::Mark;
 use tables::Pool;
 ghost use mathlib.Core.Path.{_≡_};
-ghost use Rattle.refusals.specs.Refuse.{causesIn};
+ghost use Rattle.tables.specs.Pools.{pools};
+ghost use Rattle.refusals.specs.Refuse.{leastOf};
 ghost use Rattle.journey_rules.specs.Causes.{legsCauses, endsCauses};
 
 // Each row has a value.
@@ -18,29 +19,49 @@ const ALL: Mark = Mark {
 };
 
 // The legs, and their points among so many.
-pub fn legs(b: Bounds, j: JourneyLegs, points: u32) -> [Rule; 9]
-    ensures { λ r. ⌜ causesIn r ≡ legsCauses b j points ⌝ }
+pub fn legs(
+    bytes: &[u8],
+    words: &[u32],
+    times: &[i64],
+    reals: &[f64],
+    dists: &[f32],
+    best: u32,
+    b: Bounds,
+    j: JourneyLegs,
+    points: u32,
+) -> u32
+    ensures { λ r. ⌜ r ≡ leastOf (pools (now (bytes .entry)) (now (words .entry)) (now (times .entry)) (now (reals .entry)) (now (dists .entry))) best (legsCauses b j points) ⌝ }
 {
     let walk = j.walk;
     let first = j.first;
     let count = j.count;
     let n = walk.n;
-    [
-        Rule::One(1, Test::Column(Pool::Bytes, walk, n)),
-        Rule::One(1, Test::Column(Pool::Words, first, n)),
-        Rule::One(1, Test::Column(Pool::Words, count, n)),
-        Rule::One(2, Test::Over(n, b.others)),
-        Rule::One(2, Test::Reaches(count, ALL, b.points as u64 + 1)),
-        Rule::One(5, Test::EndsPast(first, count, points)),
-        Rule::Nothing,
-        Rule::Nothing,
-        Rule::Nothing,
-    ]
+    let most = b.points as u64 + 1;
+    let mut test = Test::Column(Pool::Bytes, walk, n);
+    let best1 = tested(bytes, words, times, reals, dists, best, 1, test);
+    test = Test::Column(Pool::Words, first, n);
+    let best2 = tested(bytes, words, times, reals, dists, best1, 1, test);
+    test = Test::Column(Pool::Words, count, n);
+    let best3 = tested(bytes, words, times, reals, dists, best2, 1, test);
+    test = Test::Over(n, b.others);
+    let best4 = tested(bytes, words, times, reals, dists, best3, 2, test);
+    test = Test::Reaches(count, ALL, most);
+    let best5 = tested(bytes, words, times, reals, dists, best4, 2, test);
+    test = Test::EndsPast(first, count, points);
+    tested(bytes, words, times, reals, dists, best5, 5, test)
 }
 
 // Where walks start and end.
-pub fn ends(j: JourneyLegs) -> [Rule; 9]
-    ensures { λ r. ⌜ causesIn r ≡ endsCauses j ⌝ }
+pub fn ends(
+    bytes: &[u8],
+    words: &[u32],
+    times: &[i64],
+    reals: &[f64],
+    dists: &[f32],
+    best: u32,
+    j: JourneyLegs,
+) -> u32
+    ensures { λ r. ⌜ r ≡ leastOf (pools (now (bytes .entry)) (now (words .entry)) (now (times .entry)) (now (reals .entry)) (now (dists .entry))) best (endsCauses j) ⌝ }
 {
     let n = j.walk.n;
     let start = j.start;
@@ -51,35 +72,28 @@ pub fn ends(j: JourneyLegs) -> [Rule; 9]
     let endlat = end.lat;
     let endlon = end.lon;
     let ended = j.ended;
-    [
-        Rule::One(1, Test::Column(Pool::Reals, startlat, n)),
-        Rule::One(1, Test::Column(Pool::Reals, startlon, n)),
-        Rule::One(1, Test::Column(Pool::Bytes, started, n)),
-        Rule::One(1, Test::Column(Pool::Reals, endlat, n)),
-        Rule::One(1, Test::Column(Pool::Reals, endlon, n)),
-        Rule::One(1, Test::Column(Pool::Bytes, ended, n)),
-        Rule::One(
-            3,
-            Test::OffGlobe(
-                startlat,
-                startlon,
-                Mark {
-                    all: false,
-                    flags: started,
-                },
-            ),
-        ),
-        Rule::One(
-            3,
-            Test::OffGlobe(
-                endlat,
-                endlon,
-                Mark {
-                    all: false,
-                    flags: ended,
-                },
-            ),
-        ),
-        Rule::Nothing,
-    ]
+    let set_started = Mark {
+        all: false,
+        flags: started,
+    };
+    let set_ended = Mark {
+        all: false,
+        flags: ended,
+    };
+    let mut test = Test::Column(Pool::Reals, startlat, n);
+    let best1 = tested(bytes, words, times, reals, dists, best, 1, test);
+    test = Test::Column(Pool::Reals, startlon, n);
+    let best2 = tested(bytes, words, times, reals, dists, best1, 1, test);
+    test = Test::Column(Pool::Bytes, started, n);
+    let best3 = tested(bytes, words, times, reals, dists, best2, 1, test);
+    test = Test::Column(Pool::Reals, endlat, n);
+    let best4 = tested(bytes, words, times, reals, dists, best3, 1, test);
+    test = Test::Column(Pool::Reals, endlon, n);
+    let best5 = tested(bytes, words, times, reals, dists, best4, 1, test);
+    test = Test::Column(Pool::Bytes, ended, n);
+    let best6 = tested(bytes, words, times, reals, dists, best5, 1, test);
+    test = Test::OffGlobe(startlat, startlon, set_started);
+    let best7 = tested(bytes, words, times, reals, dists, best6, 3, test);
+    test = Test::OffGlobe(endlat, endlon, set_ended);
+    tested(bytes, words, times, reals, dists, best7, 3, test)
 }

@@ -2,7 +2,6 @@
 use journey_rules::JourneyLegs;
 use journey_rules::ends;
 use journey_rules::legs;
-use refusals::least;
 use tables::Bounds;
 ghost use mathlib.Core.Path.{_≡_};
 ghost use Rattle.tables.specs.Pools.{pools};
@@ -21,10 +20,7 @@ pub(crate) fn check_journey(
     ensures { λ r. ⌜ r ≡ refusalOf (pools (now (bytes .entry)) (now (words .entry)) (now (times .entry)) (now (reals .entry)) (now (dists .entry))) (journeyCauses b j) ⌝ }
 {
     let points = j.points;
-    let r1 = legs(b, j, points.lat.n);
-    let best1 = least(bytes, words, times, reals, dists, 0, r1);
-    let r2 = ends(j);
-    let best2 = least(bytes, words, times, reals, dists, best1, r2);
-    let r3 = shape_rules::points(points);
-    least(bytes, words, times, reals, dists, best2, r3)
+    let best1 = legs(bytes, words, times, reals, dists, 0, b, j, points.lat.n);
+    let best2 = ends(bytes, words, times, reals, dists, best1, j);
+    shape_rules::points(bytes, words, times, reals, dists, best2, points)
 }

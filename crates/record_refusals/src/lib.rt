@@ -7,7 +7,6 @@ ghost use Rattle.tables.specs.Bounds.{chartBounds};
 ghost use Rattle.refusals.specs.Refuse.{refusalOf};
 ghost use Rattle.record_refusals.specs.Verdict.{lentCauses, earlier, numbered, overOf, shortOf, verdictOf};
 use record_faults::Faults;
-use refusals::least;
 use tables::Bounds;
 use tables::Points;
 use tables::Stops;
@@ -28,10 +27,17 @@ pub fn check_lent(bytes: &[u8], words: &[u32], reals: &[f64], l: Lent) -> u32
     let b = Bounds::chart();
     let times: [i64; 1] = [0; 1];
     let dists: [f32; 1] = [0.0; 1];
-    let r1 = schedule_rules::stops(b, stops);
-    let best1 = least(bytes, words, &times[..0], reals, &dists[..0], 0, r1);
-    let r2 = shape_rules::points_within(line, b.points);
-    least(bytes, words, &times[..0], reals, &dists[..0], best1, r2)
+    let best1 = schedule_rules::stops(bytes, words, &times[..0], reals, &dists[..0], 0, b, stops);
+    shape_rules::points_within(
+        bytes,
+        words,
+        &times[..0],
+        reals,
+        &dists[..0],
+        best1,
+        line,
+        b.points,
+    )
 }
 
 // The earlier of two refusals, of which 0 is none.

@@ -1,13 +1,9 @@
--- The least refusal over causes: one after another, rule after rule, and list after list.
+-- The least refusal over causes: one after another, several at a time, and list after list.
 use mathlib.Core.Path.{_≡_, refl, sym, ap, _∙_}
-use Prim.Native.Nat.{ℕ, _+_, _≤_, _<_}
-use native.Mathlib.Numerals.{add-one}
+use Prim.Native.Nat.{ℕ}
 use mathlib.Core.List.{List, [], _∷_, _++_}
-use lib.ListN.{length, getD, drop, drop-of-length-le}
-use lib.Seq.{drop-cons}
 use Rattle.tables.specs.Pools.{Pools}
-use Rattle.refusals.specs.Refuse.{Cause, withCause, leastOf, causesOf, causesIn, joined}
-use Rattle.refusals.specs.declared.rule.Rule.{Rule}
+use Rattle.refusals.specs.Refuse.{Cause, withCause, leastOf, joined}
 
 module _ (p : Pools) where
   in-turn : (best : ℕ) (xs ys : List Cause) → leastOf p best (xs ++ ys) ≡ leastOf p (leastOf p best xs) ys
@@ -20,6 +16,10 @@ module _ (p : Pools) where
   unfolding leastOf
   first best m r c cs e q = q ∙ ap (λ (z : ℕ). leastOf p z cs) e
 
+  -- that of several causes, as of a column of ids, and that of the causes after them
+  pub several : (best m r : ℕ) (xs cs : List Cause) → m ≡ leastOf p best xs → r ≡ leastOf p m cs → r ≡ leastOf p best (xs ++ cs)
+  several best m r xs cs e q = q ∙ ap (λ (z : ℕ). leastOf p z cs) e ∙ sym (in-turn best xs cs)
+
   pub no-more : (r : ℕ) → r ≡ leastOf p r []
   unfolding leastOf
   no-more r = refl
@@ -27,24 +27,8 @@ module _ (p : Pools) where
   -- a list's least, and that of the lists after it
   pub then : (best m r : ℕ) (xs : List Cause) (xss : List (List Cause)) → m ≡ leastOf p best xs → r ≡ leastOf p m (joined xss) → r ≡ leastOf p best (joined (xs ∷ xss))
   unfolding joined
-  then best m r xs xss e q = q ∙ ap (λ (z : ℕ). leastOf p z (joined xss)) e ∙ sym (in-turn best xs (joined xss))
-
-  -- the same of rules that list the causes
-  pub then-rules : (best m r : ℕ) (ys xs : List Cause) (xss : List (List Cause)) → ys ≡ xs → m ≡ leastOf p best ys → r ≡ leastOf p m (joined xss) → r ≡ leastOf p best (joined (xs ∷ xss))
-  then-rules best m r ys xs xss l e = then best m r xs xss (e ∙ ap (leastOf p best) l)
+  then best m r xs xss e q = several best m r xs (joined xss) e q
 
   pub over : (r : ℕ) → r ≡ leastOf p r (joined [])
   unfolding leastOf joined
   over r = refl
-
-  module _ (rs : List Rule) (so-far best i : ℕ) (e : leastOf p so-far (causesIn rs) ≡ leastOf p best (causesIn (drop i rs))) where
-    pub goes-on : (d : Rule) → i < length rs → leastOf p so-far (causesIn rs) ≡ leastOf p (leastOf p best (causesOf (getD rs i d))) (causesIn (drop (i + 1) rs))
-    goes-on d l =
-        e
-        ∙ ap (λ (z : List Rule). leastOf p best (causesIn z)) (drop-cons rs i d l)
-        ∙ in-turn best (causesOf (getD rs i d)) _
-        ∙ sym (ap (λ (k : ℕ). leastOf p (leastOf p best (causesOf (getD rs i d))) (causesIn (drop k rs))) (add-one i))
-
-    pub is-through : length rs ≤ i → best ≡ leastOf p so-far (causesIn rs)
-    unfolding leastOf
-    is-through l = sym (e ∙ ap (λ (z : List Rule). leastOf p best (causesIn z)) (drop-of-length-le rs l))

@@ -10,8 +10,6 @@ use Rattle.tables.specs.declared.mark.Mark.{Mark}
 use Rattle.faults.specs.Fault.{failsOf}
 use Rattle.faults.specs.declared.fault.Test.{Test}
 use Rattle.faults.specs.declared.fault.Test.the-variants.{Ids, Reaches, IdsPast, BadIds}
-use Rattle.refusals.specs.declared.rule.Rule.{Rule}
-use Rattle.refusals.specs.declared.rule.Rule.the-variants.{Nothing, One, Names}
 
 -- all rows have a value; or those whose flag is set
 abbrev pub always : Mark
@@ -48,16 +46,6 @@ refusalOf p cs = leastOf p 0 cs
 abbrev pub idCauses : IdColumn → Mark → Bool → ℕ → ℕ → List Cause
 idCauses ids mark empty n most =
     (1, Ids ids n) ∷ (2, Reaches (ids .lens) mark (most + 1)) ∷ (5, IdsPast ids mark) ∷ (7, BadIds ids mark empty) ∷ []
-
--- the causes of a rule, and of rules
-abbrev pub causesOf : Rule → List Cause
-causesOf Nothing = []
-causesOf (One n t) = (n, t) ∷ []
-causesOf (Names ids mark empty n most) = idCauses ids mark empty n most
-
-abbrev pub causesIn : List Rule → List Cause
-causesIn [] = []
-causesIn (r ∷ rs) = causesOf r ++ causesIn rs
 
 -- lists one after another
 unfoldable pub joined : List (List Cause) → List Cause

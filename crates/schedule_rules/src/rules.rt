@@ -1,7 +1,9 @@
 // The rules of stops, trips and stop times.
 use faults::Test;
 use ids::Span;
-use refusals::Rule;
+use refusals::all_named;
+use refusals::named;
+use refusals::tested;
 use tables::Bounds;
 use tables::Mark;
 use tables::Pool;
@@ -9,7 +11,8 @@ use tables::StopTimes;
 use tables::Stops;
 use tables::Trips;
 ghost use mathlib.Core.Path.{_≡_};
-ghost use Rattle.refusals.specs.Refuse.{causesIn};
+ghost use Rattle.tables.specs.Pools.{pools};
+ghost use Rattle.refusals.specs.Refuse.{leastOf};
 ghost use Rattle.schedule_rules.specs.Parts.{stopsCauses, tripsCauses, callsCauses, placingCauses, callTimesCauses};
 
 // Each row has a value.
@@ -19,8 +22,17 @@ const ALL: Mark = Mark {
 };
 
 // The stops: their positions, and their ids, of which the raw one may be empty.
-pub fn stops(b: Bounds, s: Stops) -> [Rule; 9]
-    ensures { λ r. ⌜ causesIn r ≡ stopsCauses b s ⌝ }
+pub fn stops(
+    bytes: &[u8],
+    words: &[u32],
+    times: &[i64],
+    reals: &[f64],
+    dists: &[f32],
+    best: u32,
+    b: Bounds,
+    s: Stops,
+) -> u32
+    ensures { λ r. ⌜ r ≡ leastOf (pools (now (bytes .entry)) (now (words .entry)) (now (times .entry)) (now (reals .entry)) (now (dists .entry))) best (stopsCauses b s) ⌝ }
 {
     let own = s.own;
     let raw = s.raw;
@@ -32,22 +44,45 @@ pub fn stops(b: Bounds, s: Stops) -> [Rule; 9]
         all: false,
         flags: positioned,
     };
-    [
-        Rule::One(1, Test::Column(Pool::Reals, lat, n)),
-        Rule::One(1, Test::Column(Pool::Reals, lon, n)),
-        Rule::One(1, Test::Column(Pool::Bytes, positioned, n)),
-        Rule::One(2, Test::Over(n, b.stops)),
-        Rule::One(3, Test::OffGlobe(lat, lon, set_positioned)),
-        Rule::Names(own, ALL, false, n, b.id),
-        Rule::Names(raw, ALL, true, n, b.id),
-        Rule::Nothing,
-        Rule::Nothing,
-    ]
+    let mut test = Test::Column(Pool::Reals, lat, n);
+    let best1 = tested(bytes, words, times, reals, dists, best, 1, test);
+    test = Test::Column(Pool::Reals, lon, n);
+    let best2 = tested(bytes, words, times, reals, dists, best1, 1, test);
+    test = Test::Column(Pool::Bytes, positioned, n);
+    let best3 = tested(bytes, words, times, reals, dists, best2, 1, test);
+    test = Test::Over(n, b.stops);
+    let best4 = tested(bytes, words, times, reals, dists, best3, 2, test);
+    test = Test::OffGlobe(lat, lon, set_positioned);
+    let best5 = tested(bytes, words, times, reals, dists, best4, 3, test);
+    let best6 = all_named(bytes, words, times, reals, dists, best5, own, n, b.id);
+    named(
+        bytes,
+        words,
+        times,
+        reals,
+        dists,
+        best6,
+        raw,
+        ALL,
+        true,
+        n,
+        b.id,
+    )
 }
 
 // The trips: their rows among so many stop times, their feeds and services, and their other columns.
-pub fn trips(b: Bounds, t: Trips, rows: u32) -> [Rule; 9]
-    ensures { λ r. ⌜ causesIn r ≡ tripsCauses b t rows ⌝ }
+pub fn trips(
+    bytes: &[u8],
+    words: &[u32],
+    times: &[i64],
+    reals: &[f64],
+    dists: &[f32],
+    best: u32,
+    b: Bounds,
+    t: Trips,
+    rows: u32,
+) -> u32
+    ensures { λ r. ⌜ r ≡ leastOf (pools (now (bytes .entry)) (now (words .entry)) (now (times .entry)) (now (reals .entry)) (now (dists .entry))) best (tripsCauses b t rows) ⌝ }
 {
     let feed = t.feed;
     let service = t.service;
@@ -57,22 +92,36 @@ pub fn trips(b: Bounds, t: Trips, rows: u32) -> [Rule; 9]
     let first = t.first;
     let count = t.count;
     let n = first.n;
-    [
-        Rule::One(1, Test::Column(Pool::Words, first, n)),
-        Rule::One(1, Test::Column(Pool::Words, count, n)),
-        Rule::One(1, Test::Column(Pool::Words, shape, n)),
-        Rule::One(1, Test::Column(Pool::Bytes, shaped, n)),
-        Rule::One(1, Test::Column(Pool::Bytes, frequency, n)),
-        Rule::One(2, Test::Over(n, b.trips)),
-        Rule::One(5, Test::EndsPast(first, count, rows)),
-        Rule::Names(feed, ALL, false, n, b.id),
-        Rule::Names(service, ALL, false, n, b.id),
-    ]
+    let mut test = Test::Column(Pool::Words, first, n);
+    let best1 = tested(bytes, words, times, reals, dists, best, 1, test);
+    test = Test::Column(Pool::Words, count, n);
+    let best2 = tested(bytes, words, times, reals, dists, best1, 1, test);
+    test = Test::Column(Pool::Words, shape, n);
+    let best3 = tested(bytes, words, times, reals, dists, best2, 1, test);
+    test = Test::Column(Pool::Bytes, shaped, n);
+    let best4 = tested(bytes, words, times, reals, dists, best3, 1, test);
+    test = Test::Column(Pool::Bytes, frequency, n);
+    let best5 = tested(bytes, words, times, reals, dists, best4, 1, test);
+    test = Test::Over(n, b.trips);
+    let best6 = tested(bytes, words, times, reals, dists, best5, 2, test);
+    test = Test::EndsPast(first, count, rows);
+    let best7 = tested(bytes, words, times, reals, dists, best6, 5, test);
+    let best8 = all_named(bytes, words, times, reals, dists, best7, feed, n, b.id);
+    all_named(bytes, words, times, reals, dists, best8, service, n, b.id)
 }
 
 // The stop times.
-pub fn calls(b: Bounds, c: StopTimes) -> [Rule; 9]
-    ensures { λ r. ⌜ causesIn r ≡ callsCauses b c ⌝ }
+pub fn calls(
+    bytes: &[u8],
+    words: &[u32],
+    times: &[i64],
+    reals: &[f64],
+    dists: &[f32],
+    best: u32,
+    b: Bounds,
+    c: StopTimes,
+) -> u32
+    ensures { λ r. ⌜ r ≡ leastOf (pools (now (bytes .entry)) (now (words .entry)) (now (times .entry)) (now (reals .entry)) (now (dists .entry))) best (callsCauses b c) ⌝ }
 {
     let sequence = c.sequence;
     let stop = c.stop;
@@ -81,23 +130,37 @@ pub fn calls(b: Bounds, c: StopTimes) -> [Rule; 9]
     let dist = c.dist;
     let measured = c.measured;
     let n = stop.n;
-    [
-        Rule::One(1, Test::Column(Pool::Words, stop, n)),
-        Rule::One(1, Test::Column(Pool::Words, sequence, n)),
-        Rule::One(1, Test::Column(Pool::Words, arrival, n)),
-        Rule::One(1, Test::Column(Pool::Words, departure, n)),
-        Rule::One(1, Test::Column(Pool::Dists, dist, n)),
-        Rule::One(1, Test::Column(Pool::Bytes, measured, n)),
-        Rule::One(2, Test::Over(n, b.calls)),
-        Rule::Nothing,
-        Rule::Nothing,
-    ]
+    let mut test = Test::Column(Pool::Words, stop, n);
+    let best1 = tested(bytes, words, times, reals, dists, best, 1, test);
+    test = Test::Column(Pool::Words, sequence, n);
+    let best2 = tested(bytes, words, times, reals, dists, best1, 1, test);
+    test = Test::Column(Pool::Words, arrival, n);
+    let best3 = tested(bytes, words, times, reals, dists, best2, 1, test);
+    test = Test::Column(Pool::Words, departure, n);
+    let best4 = tested(bytes, words, times, reals, dists, best3, 1, test);
+    test = Test::Column(Pool::Dists, dist, n);
+    let best5 = tested(bytes, words, times, reals, dists, best4, 1, test);
+    test = Test::Column(Pool::Bytes, measured, n);
+    let best6 = tested(bytes, words, times, reals, dists, best5, 1, test);
+    test = Test::Over(n, b.calls);
+    tested(bytes, words, times, reals, dists, best6, 2, test)
 }
 
 // Where trips and stop times are placed: the trips' shapes, of so many, the stops of stop times, of so many, and
 // their distances.
-pub fn placing(t: Trips, c: StopTimes, shapes: u32, stops: u32) -> [Rule; 9]
-    ensures { λ r. ⌜ causesIn r ≡ placingCauses t c shapes stops ⌝ }
+pub fn placing(
+    bytes: &[u8],
+    words: &[u32],
+    times: &[i64],
+    reals: &[f64],
+    dists: &[f32],
+    best: u32,
+    t: Trips,
+    c: StopTimes,
+    shapes: u32,
+    stops: u32,
+) -> u32
+    ensures { λ r. ⌜ r ≡ leastOf (pools (now (bytes .entry)) (now (words .entry)) (now (times .entry)) (now (reals .entry)) (now (dists .entry))) best (placingCauses t c shapes stops) ⌝ }
 {
     let shape = t.shape;
     let shaped = t.shaped;
@@ -112,34 +175,30 @@ pub fn placing(t: Trips, c: StopTimes, shapes: u32, stops: u32) -> [Rule; 9]
         all: false,
         flags: measured,
     };
-    [
-        Rule::One(5, Test::Reaches(shape, set_shaped, shapes as u64)),
-        Rule::One(5, Test::Reaches(stop, ALL, stops as u64)),
-        Rule::One(8, Test::NotFinite(dist, set_measured)),
-        Rule::Nothing,
-        Rule::Nothing,
-        Rule::Nothing,
-        Rule::Nothing,
-        Rule::Nothing,
-        Rule::Nothing,
-    ]
+    let mut test = Test::Reaches(shape, set_shaped, shapes as u64);
+    let best1 = tested(bytes, words, times, reals, dists, best, 5, test);
+    test = Test::Reaches(stop, ALL, stops as u64);
+    let best2 = tested(bytes, words, times, reals, dists, best1, 5, test);
+    test = Test::NotFinite(dist, set_measured);
+    tested(bytes, words, times, reals, dists, best2, 8, test)
 }
 
 // The schedule seconds of stop times.
-pub fn call_times(c: StopTimes) -> [Rule; 9]
-    ensures { λ r. ⌜ causesIn r ≡ callTimesCauses c ⌝ }
+pub fn call_times(
+    bytes: &[u8],
+    words: &[u32],
+    times: &[i64],
+    reals: &[f64],
+    dists: &[f32],
+    best: u32,
+    c: StopTimes,
+) -> u32
+    ensures { λ r. ⌜ r ≡ leastOf (pools (now (bytes .entry)) (now (words .entry)) (now (times .entry)) (now (reals .entry)) (now (dists .entry))) best (callTimesCauses c) ⌝ }
 {
     let arrival = c.arrival;
     let departure = c.departure;
-    [
-        Rule::One(6, Test::Reaches(arrival, ALL, 604800)),
-        Rule::One(6, Test::Reaches(departure, ALL, 604800)),
-        Rule::Nothing,
-        Rule::Nothing,
-        Rule::Nothing,
-        Rule::Nothing,
-        Rule::Nothing,
-        Rule::Nothing,
-        Rule::Nothing,
-    ]
+    let arrivals = Test::Reaches(arrival, ALL, 604800);
+    let departures = Test::Reaches(departure, ALL, 604800);
+    let best1 = tested(bytes, words, times, reals, dists, best, 6, arrivals);
+    tested(bytes, words, times, reals, dists, best1, 6, departures)
 }

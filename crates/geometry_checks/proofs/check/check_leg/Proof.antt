@@ -1,4 +1,4 @@
-use Rattle.refusals.proofs.Folds.{over, then, then-rules}
+use Rattle.refusals.proofs.Folds.{over, then}
 use Rattle.geometry_checks.specs.Operations.{legCauses}
 use Rattle.geometry_checks.proofs.check.check_leg.Statement.{statement}
 use Rattle.geometry_checks.proofs.check.check_leg.Tie as tie
@@ -9,24 +9,18 @@ check-geometry-requires c κs = tt
 id-rows-requires : tie.Need-id-rows-requires
 id-rows-requires c κs = tt
 
-least-requires : tie.Need-least-requires
-least-requires c κs = tt
-
 leg-asked-requires : tie.Need-leg-asked-requires
 leg-asked-requires c κs = tt
-
-least-requires-2 : tie.Need-least-requires-2
-least-requires-2 c κs = tt
 
 returns : tie.Need-returns
 unfolding legCauses
 returns c =
-    let c2 = c .before .before in
-    let c1 = c2 .before .before in
+    let c2 = c .before in
+    let c1 = c2 .before in
     then _ _ _ _ _ _ (c1 .check-geometry .ensures)
-    (then-rules _ _ _ _ _ _ _ (c2 .before .id-rows .ensures) (c2 .least .ensures)
-    (then-rules _ _ _ _ _ _ _ (c .before .leg-asked .ensures) (c .least2 .ensures)
+    (then _ _ _ _ _ _ (c2 .id-rows .ensures)
+    (then _ _ _ _ _ _ (c .leg-asked .ensures)
     (over _ _)))
 
 pub check-leg-spec : {M : Type 1} → statement M
-check-leg-spec = tie.close (tie.spec check-geometry-requires id-rows-requires least-requires leg-asked-requires least-requires-2 returns)
+check-leg-spec = tie.close (tie.spec check-geometry-requires id-rows-requires leg-asked-requires returns)

@@ -1,6 +1,6 @@
 use borrow.Author.Tests.{eq-eqb, ne-eqb, lt-ltb, le-ltb}
-use Rattle.refusals.proofs.rule.earlier.Statement.{statement}
-use Rattle.refusals.proofs.rule.earlier.Tie as tie
+use Rattle.refusals.proofs.cause.earlier.Statement.{statement}
+use Rattle.refusals.proofs.cause.earlier.Tie as tie
 
 returns : tie.Need-returns
 returns c = simp (eq-eqb _ 0 (c .if1 .taken))

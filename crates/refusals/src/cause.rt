@@ -1,22 +1,20 @@
 // What makes a refusal: a fault, with the refusal's number. Of the faults that are there the least number is given.
-// Rules list causes, a row for each, or one for a whole column of ids.
+// The rules of a part are tests in turn, each of one cause or of a whole column of ids, that hand the least so far on.
 use faults::Test;
 use faults::fails;
 use ids::IdColumn;
+use ids::Span;
 use tables::Mark;
 ghost use mathlib.Core.Path.{_≡_};
+ghost use mathlib.Core.Bool.{false};
 ghost use Rattle.tables.specs.Pools.{pools};
-ghost use Rattle.refusals.specs.Refuse.{sooner, withCause, leastOf, idCauses, causesOf, causesIn};
+ghost use Rattle.refusals.specs.Refuse.{always, sooner, withCause, leastOf, idCauses};
 
-// A row of a part's rules.
-pub enum Rule {
-    // none
-    Nothing,
-    // a refusal's number, and the fault that it is given for
-    One(u32, Test),
-    // those of a column of so many ids, each at most so long, and not empty unless it may be
-    Names(IdColumn, Mark, bool, u32, u32),
-}
+// Each row has a value.
+const ALL: Mark = Mark {
+    all: true,
+    flags: Span { at: 0, n: 0 },
+};
 
 // The lesser of two refusals, where 0 is none.
 fn earlier(best: u32, n: u32) -> u32
@@ -32,7 +30,7 @@ fn earlier(best: u32, n: u32) -> u32
 }
 
 // The least refusal with one cause more.
-fn tested(
+pub fn tested(
     bytes: &[u8],
     words: &[u32],
     times: &[i64],
@@ -51,7 +49,7 @@ fn tested(
 }
 
 // The least refusal with the causes of a column of ids.
-fn named(
+pub fn named(
     bytes: &[u8],
     words: &[u32],
     times: &[i64],
@@ -77,55 +75,31 @@ fn named(
     tested(bytes, words, times, reals, dists, best3, 7, bad)
 }
 
-// The least refusal with the causes of one rule.
-fn ruled(
+// The same of a column where each row has an id, and none is empty.
+pub fn all_named(
     bytes: &[u8],
     words: &[u32],
     times: &[i64],
     reals: &[f64],
     dists: &[f32],
     best: u32,
-    rule: Rule,
+    ids: IdColumn,
+    n: u32,
+    most: u32,
 ) -> u32
-    ensures { λ r. ⌜ r ≡ leastOf (pools (now (bytes .entry)) (now (words .entry)) (now (times .entry)) (now (reals .entry)) (now (dists .entry))) best (causesOf rule) ⌝ }
+    ensures { λ r. ⌜ r ≡ leastOf (pools (now (bytes .entry)) (now (words .entry)) (now (times .entry)) (now (reals .entry)) (now (dists .entry))) best (idCauses ids always false n most) ⌝ }
 {
-    match rule {
-        Rule::Nothing => best,
-        Rule::One(n, test) => tested(bytes, words, times, reals, dists, best, n, test),
-        Rule::Names(ids, mark, empty, n, most) => named(
-            bytes,
-            words,
-            times,
-            reals,
-            dists,
-            best,
-            ids,
-            mark,
-            empty,
-            n,
-            most,
-        ),
-    }
-}
-
-// The least number whose cause is there, from the least so far on. No part has more rules than nine.
-pub fn least(
-    bytes: &[u8],
-    words: &[u32],
-    times: &[i64],
-    reals: &[f64],
-    dists: &[f32],
-    best: u32,
-    rules: [Rule; 9],
-) -> u32
-    ensures { λ r. ⌜ r ≡ leastOf (pools (now (bytes .entry)) (now (words .entry)) (now (times .entry)) (now (reals .entry)) (now (dists .entry))) best (causesIn rules) ⌝ }
-{
-    let mut found = best;
-    let mut i = 0;
-    while i < 9 {
-        let rule = rules[i];
-        found = ruled(bytes, words, times, reals, dists, found, rule);
-        i += 1;
-    }
-    found
+    named(
+        bytes,
+        words,
+        times,
+        reals,
+        dists,
+        best,
+        ids,
+        ALL,
+        false,
+        n,
+        most,
+    )
 }

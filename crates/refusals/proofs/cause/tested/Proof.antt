@@ -1,6 +1,6 @@
 use mathlib.Core.Path.{sym, _∙_}
-use Rattle.refusals.proofs.rule.tested.Statement.{statement}
-use Rattle.refusals.proofs.rule.tested.Tie as tie
+use Rattle.refusals.proofs.cause.tested.Statement.{statement}
+use Rattle.refusals.proofs.cause.tested.Tie as tie
 
 fails-requires : tie.Need-fails-requires
 fails-requires c κs = tt

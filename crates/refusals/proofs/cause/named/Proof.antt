@@ -1,7 +1,7 @@
 use borrow.Author.Needs.{needs}
 use Rattle.refusals.proofs.Folds.{first, no-more}
-use Rattle.refusals.proofs.rule.named.Statement.{statement}
-use Rattle.refusals.proofs.rule.named.Tie as tie
+use Rattle.refusals.proofs.cause.named.Statement.{statement}
+use Rattle.refusals.proofs.cause.named.Tie as tie
 
 add-t21 : tie.Need-add-t21
 add-t21 c = search needs
