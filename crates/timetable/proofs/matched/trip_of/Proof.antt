@@ -9,8 +9,8 @@ use Rattle.asked_journey.proofs.local.Reads as local-reads
 use Rattle.asked_journey.proofs.route.Reads as route-reads
 use Rattle.ids.proofs.id.Reads as id-reads
 use Rattle.asked_journey.proofs.departs.Reads as departs-reads
-use Rattle.matching.proofs.today.Reads as today-reads
-use Rattle.matching.proofs.yesterday.Reads as yesterday-reads
+use Rattle.moments.proofs.today.Reads as today-reads
+use Rattle.moments.proofs.yesterday.Reads as yesterday-reads
 use Rattle.matching.proofs.resolve.Reads as resolve-reads
 
 local-requires : tie.Need-local-requires
