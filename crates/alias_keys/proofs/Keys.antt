@@ -8,7 +8,8 @@ use Rattle.ids.specs.declared.lookup.Found.{Found}
 use Rattle.ids.specs.declared.lookup.Found.the-variants.{Nothing}
 use Rattle.key_parts.specs.Keys.{rawOf, withoutLoc}
 use Rattle.text_folds.specs.Folds.{prefixOf}
-use Rattle.refs.specs.Refs.{journeyIdOf, isUuid}
+use Rattle.refs.specs.Refs.{journeyIdOf}
+use Rattle.uuids.specs.Uuids.{isUuid}
 use Rattle.key_parts.specs.Words.{loc, localMark}
 use Rattle.tables.specs.declared.lent.Aliases.{Aliases}
 use Rattle.tables.specs.declared.lent.IdRows.{IdRows}

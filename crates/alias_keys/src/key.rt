@@ -46,7 +46,7 @@ pub fn or_uuid(
     requires { ⌜ Known (now bytes) (now words) tripkeys aliases ⌝ }
     ensures { λ r. ⌜ r ≡ orElse found (firstTrip (now (bytes .entry)) (now (words .entry)) tripkeys aliases (uuidKeys (now (j .entry)))) ⌝ }
 {
-    if refs::is_uuid(j) {
+    if uuids::is_uuid(j) {
         let first = or_alias(
             bytes,
             words,

@@ -1,5 +1,5 @@
 // The sailing: its feed, trip key, clock, offset and route, whether it is cancelled, and its updates.
-use case_numbers::Signed;
+use case_moments::Signed;
 use case_tables::layout;
 use case_tables::limits;
 use case_tables::put;
@@ -37,9 +37,9 @@ pub enum After {
 // The token of a bracket, a moment or a delay, without the parenthesis that ends it.
 fn timed(token: &[u8], is_delay: bool) -> Signed {
     if is_delay {
-        return case_numbers::delay(token);
+        return case_moments::delay(token);
     }
-    case_numbers::moment(token)
+    case_moments::moment(token)
 }
 
 // A bracket of this name, if it stands next, into a row of a column and of its flags.

@@ -1,2 +1,2 @@
--- `Numerals`: the numbers of the case language.
+-- `Numerals`: the numbers of the case language that have no sign.
 pub mod Numerals

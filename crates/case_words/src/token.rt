@@ -1,7 +1,7 @@
 // One token of a line into a row of a column. Tokens are told by their fields: field 0 is the form's name.
 use crate::why::Why;
 use case_digits::Natural;
-use case_numbers::Signed;
+use case_moments::Signed;
 use case_numbers::Whole;
 use case_tables::put;
 use case_tables::put::Put;
@@ -33,7 +33,7 @@ pub fn number(s: &[u8], i: u32, words: &mut [u32], column: u32, row: u32) -> Why
 }
 
 pub fn moment(s: &[u8], i: u32, times: &mut [i64], column: u32, row: u32) -> Why {
-    let Signed::Is(t) = case_numbers::moment(field(s, i as usize)) else {
+    let Signed::Is(t) = case_moments::moment(field(s, i as usize)) else {
         return Why::Token(i);
     };
     put::time(times, column, row, t);

@@ -6,7 +6,8 @@ use Rattle.text_runs.specs.Runs.{firstByte}
 use Rattle.ids.specs.declared.lookup.Found.{Found}
 use Rattle.ids.specs.declared.lookup.Found.the-variants.{Nothing}
 use Rattle.parts.specs.Parts.{upTo}
-use Rattle.refs.specs.Refs.{journeyIdOf, isUuid}
+use Rattle.refs.specs.Refs.{journeyIdOf}
+use Rattle.uuids.specs.Uuids.{isUuid}
 use Rattle.tables.specs.declared.lent.IdRows.{IdRows}
 use Rattle.trip_ids.specs.Trips.{tripOf}
 use Rattle.trip_ids.specs.Words.{tripMark}

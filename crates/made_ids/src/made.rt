@@ -25,7 +25,7 @@ pub fn built(bytes: &[u8], words: &[u32], tripkeys: IdRows, base: &[u8]) -> Foun
     let id = tripkeys.id;
     let row = tripkeys.row;
     let j = refs::journey_id(base);
-    if refs::is_uuid(j) {
+    if uuids::is_uuid(j) {
         return trip_at(
             words,
             row,

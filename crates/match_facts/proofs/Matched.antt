@@ -16,7 +16,8 @@ use Rattle.ids.specs.declared.lookup.Found.the-variants.{At, Nothing}
 use Rattle.ids.proofs.ByteOrder.{clash}
 use Rattle.ids.proofs.Search.{first-found}
 use Rattle.key_parts.specs.Keys.{tailOf}
-use Rattle.refs.specs.Refs.{journeyIdOf, isUuid}
+use Rattle.refs.specs.Refs.{journeyIdOf}
+use Rattle.uuids.specs.Uuids.{isUuid}
 use Rattle.tokens.specs.Tokens.{tokenOf}
 use Rattle.tables.specs.declared.lent.Aliases.{Aliases}
 use Rattle.tables.specs.declared.lent.IdRows.{IdRows}

@@ -1,5 +1,5 @@
 // Dates, services and matching.
-use case_numbers::Signed;
+use case_moments::Signed;
 use case_tables::Case;
 use case_tables::layout;
 use case_tables::put;

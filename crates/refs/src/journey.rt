@@ -1,14 +1,11 @@
-// The journey id of a ref, and whether it is a UUID.
-use ids::Kind;
+// The journey id of a ref.
 use key_parts::without_colons;
 use key_parts::without_locs;
 use parts::after_last;
 use parts::before;
-use parts::first;
-use parts::from;
 use parts::past_place;
 ghost use mathlib.Core.Path.{_≡_};
-ghost use Rattle.refs.specs.Refs.{afterColons, withoutLocPart, isKind, afterKind, afterParts, journeyIdOf, bare, dashed, isUuid};
+ghost use Rattle.refs.specs.Refs.{afterColons, withoutLocPart, isKind, afterKind, afterParts, journeyIdOf};
 
 // What stands after the first "::", trimmed.
 fn after_colons<'a>(s: &'a [u8]) -> &'a [u8]
@@ -63,38 +60,4 @@ pub fn journey_id<'a>(s: &'a [u8]) -> &'a [u8]
         return after_parts(s);
     }
     id
-}
-
-// Without spaces at the beginning and at the end.
-fn bare_text<'a>(s: &'a [u8]) -> &'a [u8]
-    ensures { λ r. ⌜ now r ≡ bare (now (s .entry)) ⌝ }
-{
-    let t = from(s, text_runs::run(s, Kind::Byte(b' ')));
-    first(t, text_runs::trimmed(t, b' '))
-}
-
-// 36 bytes with four dashes at the places of a UUID.
-fn has_dashes(s: &[u8]) -> bool
-    ensures { λ r. ⌜ r ≡ dashed (now (s .entry)) ⌝ }
-{
-    if s.len() != 36 {
-        return false;
-    }
-    if s[8] != b'-' {
-        return false;
-    }
-    if s[13] != b'-' {
-        return false;
-    }
-    if s[18] != b'-' {
-        return false;
-    }
-    s[23] == b'-'
-}
-
-// The same between spaces.
-pub fn is_uuid(j: &[u8]) -> bool
-    ensures { λ r. ⌜ r ≡ isUuid (now (j .entry)) ⌝ }
-{
-    has_dashes(bare_text(j))
 }

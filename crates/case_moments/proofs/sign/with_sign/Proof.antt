@@ -1,12 +1,12 @@
--- `case_numbers::numerals::with_sign` meets its contract: what is below 2^63 can be negated.
+-- `case_moments::sign::with_sign` meets its contract: what is below 2^63 can be negated.
 use native.Mathlib.Omega.{arith}
 use mir.Facts.{toZ-pos}
 use mir.Syntax.{w64}
-use Rattle.case_numbers.proofs.Negated.{negated, read-negated}
+use Rattle.case_moments.proofs.Negated.{negated, read-negated}
 use borrow.Author.Tests.{lt-ltb, le-ltb}
 use borrow.Author.Needs.{needs}
-use Rattle.case_numbers.proofs.numerals.with_sign.Statement.{statement}
-use Rattle.case_numbers.proofs.numerals.with_sign.Tie as tie
+use Rattle.case_moments.proofs.sign.with_sign.Statement.{statement}
+use Rattle.case_moments.proofs.sign.with_sign.Tie as tie
 
 enum-known-v : tie.Need-enum-known-v
 enum-known-v c = search needs

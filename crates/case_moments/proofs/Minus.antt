@@ -6,7 +6,7 @@ use mathlib.Core.List.{List, [], _∷_}
 use lib.Dec.{eqb}
 use lib.ListN.{length, getD}
 use native.Mathlib.Omega.{arith}
-use Rattle.case_numbers.specs.Numerals.{isNegative}
+use Rattle.case_moments.specs.Moments.{isNegative}
 
 pub none-negative : (s : List ℕ) → length s ≡ 0 → false ≡ isNegative s
 none-negative [] h = refl

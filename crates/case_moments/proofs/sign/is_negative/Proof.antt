@@ -1,9 +1,9 @@
--- `case_numbers::numerals::is_negative` meets its contract.
+-- `case_moments::sign::is_negative` meets its contract.
 use native.Mathlib.Omega.{arith}
-use Rattle.case_numbers.proofs.Minus.{none-negative}
+use Rattle.case_moments.proofs.Minus.{none-negative}
 use borrow.Author.Needs.{needs}
-use Rattle.case_numbers.proofs.numerals.is_negative.Statement.{statement}
-use Rattle.case_numbers.proofs.numerals.is_negative.Tie as tie
+use Rattle.case_moments.proofs.sign.is_negative.Statement.{statement}
+use Rattle.case_moments.proofs.sign.is_negative.Tie as tie
 
 returns : tie.Need-returns
 returns c = none-negative (c .before .args .s .now) (omega arith)

@@ -2,8 +2,8 @@ use borrow.Author.Needs.{needs}
 use borrow.Author.Tests.{eq-eqb, ne-eqb}
 use mathlib.Core.Path.{_≡_}
 use mathlib.Core.Bool.{Bool, true, _&&_}
-use Rattle.refs.proofs.journey.has_dashes.Statement.{statement}
-use Rattle.refs.proofs.journey.has_dashes.Tie as tie
+use Rattle.uuids.proofs.uuid.has_dashes.Statement.{statement}
+use Rattle.uuids.proofs.uuid.has_dashes.Tie as tie
 
 -- Of five tests four hold: the fifth decides.
 last-of-five : (a b c d e : Bool) → a ≡ true → b ≡ true → c ≡ true → d ≡ true → e ≡ (a && (b && (c && (d && e))))

@@ -1,11 +1,11 @@
--- `case_numbers::numerals::delay` meets its contract.
+-- `case_moments::sign::moment` meets its contract.
 use native.Mathlib.Omega.{arith}
 use mathlib.Core.Path.{sym, _∙_}
 use Rattle.ids.proofs.Pools.{rest}
-use Rattle.case_numbers.proofs.Minus.{negative-some}
+use Rattle.case_moments.proofs.Minus.{negative-some}
 use borrow.Author.Needs.{needs}
-use Rattle.case_numbers.proofs.numerals.delay.Statement.{statement}
-use Rattle.case_numbers.proofs.numerals.delay.Tie as tie
+use Rattle.case_moments.proofs.sign.moment.Statement.{statement}
+use Rattle.case_moments.proofs.sign.moment.Tie as tie
 
 is-negative-requires : tie.Need-is-negative-requires
 is-negative-requires c κs = search needs
@@ -37,8 +37,8 @@ with-sign-requires-2 c κs = search needs
 returns-2 : tie.Need-returns-2
 returns-2 c = rw (← c .before .before .before .is-negative .ensures, c .before .before .if1 .left) (rw (c .before .spelled2 .ensures) at (c .with-sign2 .ensures))
 
-pub delay-spec : {M : Type 1} → statement M
-delay-spec =
+pub moment-spec : {M : Type 1} → statement M
+moment-spec =
     tie.close
     (tie.spec
     is-negative-requires

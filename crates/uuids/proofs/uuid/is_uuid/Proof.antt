@@ -1,9 +1,9 @@
 use borrow.Author.Needs.{needs}
-use Rattle.refs.specs.Refs.{isUuid}
-use Rattle.refs.proofs.journey.is_uuid.Statement.{statement}
-use Rattle.refs.proofs.journey.is_uuid.Tie as tie
-use Rattle.refs.proofs.journey.bare_text.Reads as bare-text-reads
-use Rattle.refs.proofs.journey.has_dashes.Reads as has-dashes-reads
+use Rattle.uuids.specs.Uuids.{isUuid}
+use Rattle.uuids.proofs.uuid.is_uuid.Statement.{statement}
+use Rattle.uuids.proofs.uuid.is_uuid.Tie as tie
+use Rattle.uuids.proofs.uuid.bare_text.Reads as bare-text-reads
+use Rattle.uuids.proofs.uuid.has_dashes.Reads as has-dashes-reads
 
 bare-text-requires : tie.Need-bare-text-requires
 bare-text-requires c κs = search needs

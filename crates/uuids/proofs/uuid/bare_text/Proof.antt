@@ -1,6 +1,6 @@
 use borrow.Author.Needs.{needs}
-use Rattle.refs.proofs.journey.bare_text.Statement.{statement}
-use Rattle.refs.proofs.journey.bare_text.Tie as tie
+use Rattle.uuids.proofs.uuid.bare_text.Statement.{statement}
+use Rattle.uuids.proofs.uuid.bare_text.Tie as tie
 use Rattle.text_runs.proofs.run.Reads as run-reads
 use Rattle.text_runs.proofs.trimmed.Reads as trimmed-reads
 use Rattle.parts.proofs.first.Reads as first-reads

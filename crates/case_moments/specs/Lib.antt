@@ -1,0 +1,2 @@
+-- `Moments`: the signed numbers of the case language.
+pub mod Moments

@@ -1,0 +1,2 @@
+-- `Uuids`: whether a text is a UUID.
+pub mod Uuids
