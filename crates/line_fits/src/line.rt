@@ -2,9 +2,9 @@
 // found by halves, and then they are read one by one.
 use ids::Found;
 use ids::Order;
-use row_lookup::Rows;
 use row_lookup::seek;
-use row_lookup::stands;
+use row_stands::Rows;
+use row_stands::stands;
 use trip_fits::Count;
 use trip_fits::Fit;
 use trip_fits::Plan;
