@@ -13,8 +13,9 @@ use Rattle.ids.specs.declared.lookup.Found.{Found}
 use Rattle.ids.specs.declared.lookup.Found.the-variants.{At, Nothing}
 use Rattle.ids.proofs.ByteOrder.{clash, split}
 use Rattle.ids.specs.Pool.{cellOf}
-use Rattle.row_lookup.specs.Rows.{standOf, partsAt, keyOf, rowIs, isSame}
-use Rattle.row_lookup.specs.declared.rows.Rows.the-variants.{Lines}
+use Rattle.row_stands.specs.Stands.{standOf, partsAt, keyOf}
+use Rattle.row_lookup.specs.Rows.{rowIs, isSame}
+use Rattle.row_stands.specs.declared.rows.Rows.the-variants.{Lines}
 use Rattle.row_lookup.proofs.Halves.{earlier, none-after, is-other}
 use Rattle.trip_fits.specs.Fits.{tripFit}
 use Rattle.departure_fits.specs.Departures.{away}

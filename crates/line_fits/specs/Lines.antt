@@ -6,8 +6,9 @@ use lib.Dec.{ltb}
 use Rattle.ids.specs.Pool.{cellOf}
 use Rattle.ids.specs.declared.lookup.Found.{Found}
 use Rattle.ids.specs.declared.lookup.Found.the-variants.{At, Nothing}
-use Rattle.row_lookup.specs.Rows.{standOf, rowIs, placeOf, InOrder}
-use Rattle.row_lookup.specs.declared.rows.Rows.the-variants.{Lines}
+use Rattle.row_stands.specs.Stands.{standOf}
+use Rattle.row_lookup.specs.Rows.{rowIs, placeOf, InOrder}
+use Rattle.row_stands.specs.declared.rows.Rows.the-variants.{Lines}
 use Rattle.services.specs.Runs.{Calendared}
 use Rattle.trip_fits.specs.Fits.{tripFit}
 use Rattle.departure_fits.specs.Departures.{away}

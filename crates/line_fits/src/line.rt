@@ -7,7 +7,7 @@ use ids::Found;
 use ids::Order;
 use row_lookup::Rows;
 use row_lookup::seek;
-use row_lookup::stands;
+use row_stands::stands;
 use trip_fits::Plan;
 use trip_fits::fit_of;
 ghost use mathlib.Core.Path.{_≡_};

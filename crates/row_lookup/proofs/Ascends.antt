@@ -1,10 +1,9 @@
 -- Rows that a check of the tables has found to ascend also ascend as the searches here ask. Assumes nothing.
 use Prim.Native.Nat.{ℕ, _<_}
-use mathlib.Core.Path.{_≡_, refl, sym, ap, _∙_}
-use mathlib.Core.Bool.{true, false, cond}
+use mathlib.Core.Path.{_≡_}
+use mathlib.Core.Bool.{true}
 use mathlib.Core.List.{List, [], _∷_}
 use native.Mathlib.Omega.{arith}
-use lib.Dec.{ltb}
 use Rattle.ids.specs.Cmp.{cmp}
 use Rattle.ids.specs.Pool.{cellOf, idOf}
 use Rattle.ids.specs.declared.order.Order.{Order}
@@ -17,8 +16,9 @@ use Rattle.days.proofs.Ascending.{ordinal-order}
 use Rattle.column_order.specs.Order.{cmpParts, cmpRows, orNext, partsOf}
 use Rattle.column_order.specs.declared.order.Key.{Key}
 use Rattle.column_order.specs.declared.order.Key.the-variants.{IdWord, Ids, Dated}
-use Rattle.row_lookup.specs.Rows.{partsAt, InOrder, Ascend}
-use Rattle.row_lookup.specs.declared.rows.Rows.the-variants.{Ranges, Exceptions, Lines}
+use Rattle.row_stands.specs.Stands.{partsAt}
+use Rattle.row_lookup.specs.Rows.{InOrder, Ascend}
+use Rattle.row_stands.specs.declared.rows.Rows.the-variants.{Ranges, Exceptions, Lines}
 
 module _ (bytes words : List ℕ) where
   -- rows below n are in the order of their keys

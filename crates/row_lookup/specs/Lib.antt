@@ -1,2 +1,2 @@
--- `Rows`: rows of a table and the key that they are found by.
+-- `Rows`: rows of a table that ascend, and the place of a key among them.
 pub mod Rows

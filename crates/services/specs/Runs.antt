@@ -1,30 +1,20 @@
 -- Which services run on a day, as the GTFS Schedule reference has it. A day is its date's ordinal.
-use Prim.Native.Nat.{ℕ, _+_, _/_, _%_, _^_, _<_}
-use mathlib.Core.Path.{_≡_}
+use Prim.Native.Nat.{ℕ}
 use mathlib.Core.Bool.{Bool, false, not, _&&_, _||_}
 use mathlib.Core.List.{List}
-use lib.Dec.{eqb, leb}
-use lib.ListN.{getD}
 use Rattle.ids.specs.First.{first, isAt}
-use Rattle.ids.specs.Pool.{cellOf, idOf}
+use Rattle.ids.specs.Pool.{idOf}
 use Rattle.ids.specs.Rows.{rowOf, Ascending}
 use Rattle.ids.specs.declared.lookup.Found.{Found}
 use Rattle.ids.specs.declared.lookup.Found.the-variants.{At, Nothing}
-use Rattle.days.specs.Days.{ordinal}
 use Rattle.tables.specs.declared.lent.Calendars.{Calendars}
 use Rattle.tables.specs.declared.lent.Exceptions.{Exceptions}
 use Rattle.tables.specs.declared.lent.Ranges.{Ranges}
-use Rattle.row_lookup.specs.Rows.{standOf, rowIs, Ascend}
-use Rattle.row_lookup.specs.declared.rows.Rows.{Rows}
-use Rattle.row_lookup.specs.declared.rows.Rows.the-variants.{Ranges as ByNames, Exceptions as ByDay}
-
--- the weekday of a day, Monday 0: 00010101 is a Monday
-abbrev pub weekdayAt : ℕ → ℕ
-weekdayAt day = (day + 6) % 7
-
--- the day's weekday is one of those that a byte has, Monday lowest
-unfoldable pub onWeekday : ℕ → ℕ → Bool
-onWeekday weekdays day = eqb (weekdays / 2 ^ weekdayAt day % 2) 1
+use Rattle.service_ranges.specs.Range.{inRange}
+use Rattle.row_stands.specs.Stands.{standOf}
+use Rattle.row_lookup.specs.Rows.{rowIs, Ascend}
+use Rattle.row_stands.specs.declared.rows.Rows.{Rows}
+use Rattle.row_stands.specs.declared.rows.Rows.the-variants.{Ranges as ByNames, Exceptions as ByDay}
 
 abbrev pub rangeRows : Ranges → Rows
 rangeRows g = ByNames (g .feed) (g .service)
@@ -33,11 +23,6 @@ abbrev pub exceptionRows : Exceptions → Rows
 exceptionRows e = ByDay (e .feed) (e .service) (e .date) (e .removed)
 
 module _ (bytes words : List ℕ) where
-  -- row k of the ranges has the day, both ends included, and its weekday
-  unfoldable pub inRange : Ranges → ℕ → ℕ → Bool
-  inRange g day k =
-      leb (ordinal (cellOf words (g .first) k)) day && (leb day (ordinal (cellOf words (g .last) k)) && onWeekday (getD bytes (g .weekdays .at + k) 0) day)
-
   -- the feed has a calendar
   unfoldable pub named : Calendars → List ℕ → Bool
   named c feed = isAt (rowOf (idOf bytes words (c .feed)) (c .feed .starts .n) feed)
@@ -48,7 +33,7 @@ module _ (bytes words : List ℕ) where
 
   -- the row found, if any, has the day
   abbrev pub rangeHas : Ranges → ℕ → Found → Bool
-  rangeHas g day (At k) = inRange g day k
+  rangeHas g day (At k) = inRange bytes words g day k
   rangeHas g day Nothing = false
 
   -- the service's range has the day

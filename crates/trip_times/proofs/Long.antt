@@ -7,7 +7,8 @@ use mathlib.Core.List.{List, [], _∷_}
 use lib.ListN.{length}
 use Rattle.ids.specs.Pool.{idOf}
 use Rattle.ids.specs.declared.lookup.Found.the-variants.{Nothing}
-use Rattle.row_lookup.specs.Rows.{standOf, partsAt, keyOf, rowIs}
+use Rattle.row_stands.specs.Stands.{standOf, partsAt, keyOf}
+use Rattle.row_lookup.specs.Rows.{rowIs}
 use Rattle.row_lookup.proofs.Halves.{is-other, parts-same}
 use Rattle.departure_fits.specs.declared.departure.Count.{Count}
 use Rattle.trip_fits.specs.declared.fit.Plan.{Plan}

@@ -6,8 +6,8 @@ use Prim.Native.Nat.{_-_, _≤_, ℕ}
 use mathlib.Core.Bool.{true, false}
 use mathlib.Core.Path.{_∙_, _≡_, ap, sym}
 use Rattle.row_lookup.proofs.Halves.{place-le}
-use Rattle.row_lookup.specs.Rows.{keyOf, partsAt, standOf}
-use Rattle.row_lookup.specs.declared.rows.Rows.the-variants.{Lines}
+use Rattle.row_stands.specs.Stands.{keyOf, partsAt, standOf}
+use Rattle.row_stands.specs.declared.rows.Rows.the-variants.{Lines}
 use mathlib.Core.List.{[]}
 use Rattle.departure_fits.specs.declared.departure.Fit.{Fit}
 use Rattle.columns.proofs.Scan.{Missed, hit, on, over}

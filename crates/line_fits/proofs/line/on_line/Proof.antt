@@ -3,7 +3,7 @@ use mathlib.Core.Path.{_∙_, ap, sym}
 use Rattle.row_lookup.specs.Rows.{isSame, rowIs}
 use Rattle.line_fits.proofs.line.on_line.Statement.{statement}
 use Rattle.line_fits.proofs.line.on_line.Tie as tie
-use Rattle.row_lookup.proofs.stands.Reads as stands-reads
+use Rattle.row_stands.proofs.stands.Reads as stands-reads
 
 slice-aggregate-stands : tie.Need-slice-aggregate-stands
 slice-aggregate-stands c = search needs

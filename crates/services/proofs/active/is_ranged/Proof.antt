@@ -1,9 +1,9 @@
 use borrow.Author.Needs.{needs}
-use mathlib.Core.Path.{_∙_, ap, sym}
+use mathlib.Core.Path.{_∙_, sym}
 use Rattle.services.specs.Runs.{ranged}
 use Rattle.services.proofs.active.is_ranged.Statement.{statement}
 use Rattle.services.proofs.active.is_ranged.Tie as tie
-use Rattle.services.proofs.active.in_range.Reads as in-range-reads
+use Rattle.service_ranges.proofs.in_range.Reads as in-range-reads
 use Rattle.row_lookup.proofs.row_of.Reads as row-of-reads
 
 cast-row-of : tie.Need-cast-row-of

@@ -1,13 +1,13 @@
 use borrow.Author.Needs.{needs}
 use borrow.Author.Tests.{le-leb, lt-leb}
 use mathlib.Core.Path.{sym}
-use Rattle.services.specs.Runs.{inRange}
-use Rattle.services.proofs.active.in_range.Statement.{statement}
-use Rattle.services.proofs.active.in_range.Tie as tie
+use Rattle.service_ranges.specs.Range.{inRange}
+use Rattle.service_ranges.proofs.range.in_range.Statement.{statement}
+use Rattle.service_ranges.proofs.range.in_range.Tie as tie
 use Rattle.days.proofs.ordinal_of.Reads as ordinal-of-reads
 use Rattle.ids.proofs.cell.Reads as cell-reads
-use Rattle.services.proofs.active.byte.Reads as byte-reads
-use Rattle.services.proofs.active.on_weekday.Reads as on-weekday-reads
+use Rattle.service_ranges.proofs.range.byte.Reads as byte-reads
+use Rattle.service_ranges.proofs.range.on_weekday.Reads as on-weekday-reads
 
 cell-requires : tie.Need-cell-requires
 cell-requires c κs = search needs

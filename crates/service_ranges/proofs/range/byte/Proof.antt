@@ -3,8 +3,8 @@ use Prim.Native.Nat.{_+_, _≤_}
 use native.Mathlib.Omega.{arith}
 use mathlib.Core.Path.{sym}
 use lib.ListN.{length, List·getD-eq-default}
-use Rattle.services.proofs.active.byte.Statement.{statement}
-use Rattle.services.proofs.active.byte.Tie as tie
+use Rattle.service_ranges.proofs.range.byte.Statement.{statement}
+use Rattle.service_ranges.proofs.range.byte.Tie as tie
 
 returns : tie.Need-returns
 returns c = let a = c .before .args in let l : length (a .bytes .now) ≤ a .span .at + a .k = omega arith in sym (List·getD-eq-default (a .bytes .now) 0 l)

@@ -1,4 +1,4 @@
--- `row_lookup::rows::by_day` meets its contract. Each return: the first part that differs decides.
+-- `row_stands::rows::by_day` meets its contract. Each return: the first part that differs decides.
 use borrow.Author.Needs.{needs}
 use mathlib.Core.Path.{_∙_, _≡_, ap, refl, sym}
 use mathlib.Core.List.{[], _∷_}
@@ -6,16 +6,16 @@ use Rattle.ids.specs.Pool.{cellOf}
 use Rattle.days.specs.Days.{ordinal}
 use Rattle.ids.proofs.ByteOrder.{head-less, head-more, same-equal}
 use Rattle.column_order.proofs.Keys.{only-part, part-less, part-more, part-same, two-less, two-more, two-same}
-use Rattle.row_lookup.specs.Rows.{keyOf, partsAt, standOf}
+use Rattle.row_stands.specs.Stands.{keyOf, partsAt, standOf}
 use Prim.Native.Nat.{ℕ}
 use native.Mathlib.Omega.{arith}
-use Rattle.row_lookup.proofs.rows.by_day.Statement.{statement}
-use Rattle.row_lookup.proofs.rows.by_day.Tie as tie
+use Rattle.row_stands.proofs.rows.by_day.Statement.{statement}
+use Rattle.row_stands.proofs.rows.by_day.Tie as tie
 use Rattle.columns.proofs.bit.Reads as bit-reads
 use Rattle.column_order.proofs.numbers.Reads as numbers-reads
 use Rattle.days.proofs.ordinal_of.Reads as ordinal-of-reads
 use Rattle.ids.proofs.cell.Reads as cell-reads
-use Rattle.row_lookup.proofs.rows.by_names.Reads as by-names-reads
+use Rattle.row_stands.proofs.rows.by_names.Reads as by-names-reads
 
 by-names-requires : tie.Need-by-names-requires
 by-names-requires c κs = search needs

@@ -1,4 +1,4 @@
--- `row_lookup::rows::seek` meets its contract. The loop's invariant: rows below lo come before what is asked of, and rows from hi on do not.
+-- `row_lookup::search::seek` meets its contract. The loop's invariant: rows below lo come before what is asked of, and rows from hi on do not.
 use borrow.Author.Needs.{needs}
 use native.Mathlib.Omega.{arith}
 use Prim.Native.Nat.{_+_, _-_, _/_, ℕ}
@@ -8,10 +8,10 @@ use Rattle.ids.specs.declared.order.Order.{Order}
 use Rattle.ids.specs.declared.order.Order.the-variants.{Less, Same, More}
 use Rattle.ids.proofs.ByteOrder.{clash}
 use Rattle.column_order.specs.Order.{cmpParts}
-use Rattle.row_lookup.specs.Rows.{keyOf, partsAt, standOf}
+use Rattle.row_stands.specs.Stands.{keyOf, partsAt, standOf}
 use Rattle.row_lookup.proofs.Halves.{Bracket, down, found, start, up}
-use Rattle.row_lookup.proofs.rows.seek.Statement.{statement}
-use Rattle.row_lookup.proofs.rows.seek.Tie as tie
+use Rattle.row_lookup.proofs.search.seek.Statement.{statement}
+use Rattle.row_lookup.proofs.search.seek.Tie as tie
 
 abbrev Inv-loop : tie.InvT-loop
 Inv-loop bytes words rows n a b day flag lo₀ hi₀ lo hi = Bracket (partsAt bytes words rows) (keyOf rows a b day flag) n lo hi

@@ -1,13 +1,13 @@
 use borrow.Author.Needs.{needs}
 use mathlib.Core.Path.{_∙_, sym}
 use Rattle.column_order.proofs.Keys.{only-part}
-use Rattle.row_lookup.specs.Rows.{keyOf, partsAt, standOf}
-use Rattle.row_lookup.proofs.rows.stands.Statement.{statement}
-use Rattle.row_lookup.proofs.rows.stands.Tie as tie
+use Rattle.row_stands.specs.Stands.{keyOf, partsAt, standOf}
+use Rattle.row_stands.proofs.rows.stands.Statement.{statement}
+use Rattle.row_stands.proofs.rows.stands.Tie as tie
 use Rattle.ids.proofs.compare.Reads as compare-reads
 use Rattle.ids.proofs.id.Reads as id-reads
-use Rattle.row_lookup.proofs.rows.by_day.Reads as by-day-reads
-use Rattle.row_lookup.proofs.rows.by_names.Reads as by-names-reads
+use Rattle.row_stands.proofs.rows.by_day.Reads as by-day-reads
+use Rattle.row_stands.proofs.rows.by_names.Reads as by-names-reads
 
 enum-known-rows : tie.Need-enum-known-rows
 enum-known-rows c = search needs

@@ -9,7 +9,7 @@ use lib.IntN.{pos, negsuc, _+ℤ_, _-ℤ_}
 use Rattle.days.specs.Days.{ordinal, dayOf}
 use Rattle.day_counts.specs.Weekdays.{weekdayOf}
 use Rattle.day_counts.specs.Floor.{floorMod}
-use Rattle.services.specs.Runs.{weekdayAt}
+use Rattle.service_ranges.specs.Range.{weekdayAt}
 
 -- the day that is m days and one more before day 0
 before : (m k : ℕ) → m + suc k ≡ 719163 → floorMod (negsuc m +ℤ pos 3) 7 ≡ weekdayAt k

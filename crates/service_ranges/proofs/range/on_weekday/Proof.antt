@@ -1,4 +1,4 @@
--- `services::active::on_weekday` meets its contract: a weekday is below 7, so that the shifted 1 is a power of two.
+-- `service_ranges::range::on_weekday` meets its contract: a weekday is below 7, so that the shifted 1 is a power of two.
 use borrow.Author.Needs.{needs}
 use Prim.Native.Nat.{ℕ, _*_, _^_, _%_}
 use native.Mathlib.Nat.{one-mul}
@@ -6,9 +6,9 @@ use native.Mathlib.Omega.{arith}
 use mathlib.Core.Path.{_≡_, _∙_}
 use lib.Dec.{lit<}
 use lib.Pow.{pow-pos, shl-exact}
-use Rattle.services.specs.Runs.{onWeekday, weekdayAt}
-use Rattle.services.proofs.active.on_weekday.Statement.{statement}
-use Rattle.services.proofs.active.on_weekday.Tie as tie
+use Rattle.service_ranges.specs.Range.{onWeekday, weekdayAt}
+use Rattle.service_ranges.proofs.range.on_weekday.Statement.{statement}
+use Rattle.service_ranges.proofs.range.on_weekday.Tie as tie
 
 shifted : (day : ℕ) → (1 * 2 ^ weekdayAt day) % 18446744073709551616 ≡ 2 ^ weekdayAt day
 shifted day = shl-exact {a = 1} 1 (weekdayAt day) 64 (lit< tt) (omega arith) ∙ one-mul (2 ^ weekdayAt day)

@@ -1,0 +1,2 @@
+-- `Range`: which days a range of services has.
+pub mod Range
