@@ -12,9 +12,9 @@ use borrow.Author.Tests.{le-ltb, lt-ltb, eqb-false}
 use Rattle.ids.specs.declared.lookup.Found.{Found}
 use Rattle.ids.specs.declared.lookup.Found.the-variants.{At, Nothing}
 use Rattle.floats.specs.Number.{nought}
-use Rattle.lengths.specs.Length.{lengthTo}
+use Rattle.running_lengths.specs.Length.{lengthTo}
 use Rattle.lengths.specs.declared.line.Point.{Point}
-use Rattle.lengths.proofs.Running.{first-length}
+use Rattle.running_lengths.proofs.Running.{first-length}
 use Rattle.projection.specs.Projection.{projectionFrom, projectionOf, stepOf}
 use Rattle.projection.specs.declared.cursor.Position.{Position}
 use Rattle.projection.specs.declared.cursor.Position.the-variants.{Known, Missing}

@@ -8,7 +8,7 @@ use lib.Ieee.{Float}
 use lib.ListN.{length}
 use Rattle.ieee.specs.Single.{narrowOf}
 use Rattle.unit_scales.specs.declared.metres.Affine.{Affine}
-use Rattle.lengths.specs.Length.{lengthTo}
+use Rattle.running_lengths.specs.Length.{lengthTo}
 use Rattle.lengths.specs.declared.line.Point.{Point}
 use Rattle.near_vertex.specs.Forward.{startOf}
 use Rattle.projection.specs.Projection.{stepOf}

@@ -1,13 +1,13 @@
--- `lengths::length::length_to` meets its contract. The loop's invariant: the sum is the length to vertex i.
+-- `running_lengths::length::length_to` meets its contract. The loop's invariant: the sum is the length to vertex i.
 use Prim.Native.Nat.{_-_, _≤_}
 use native.Mathlib.Omega.{arith}
 use mathlib.Core.Path.{_≡_, sym, ap, _∙_}
 use lib.Ieee.{ofBits}
 use Rattle.lengths.specs.Line.{lineOf}
-use Rattle.lengths.specs.Length.{lengthTo}
-use Rattle.lengths.proofs.Running.{first-length, next-length, whole-length}
-use Rattle.lengths.proofs.length.length_to.Statement.{statement}
-use Rattle.lengths.proofs.length.length_to.Tie as tie
+use Rattle.running_lengths.specs.Length.{lengthTo}
+use Rattle.running_lengths.proofs.Running.{first-length, next-length, whole-length}
+use Rattle.running_lengths.proofs.length.length_to.Statement.{statement}
+use Rattle.running_lengths.proofs.length.length_to.Tie as tie
 
 abbrev Inv-loop : tie.InvT-loop
 Inv-loop lat lon k n sum₀ i₀ sum i = (i ≤ k) × (sum ≡ lengthTo (lineOf lat lon) i)

@@ -8,9 +8,9 @@ use lib.ListN.{length, getD, take}
 use lib.Seq.{take-all}
 use lib.Ieee.{Float, nan, binary64, add}
 use Rattle.floats.specs.Number.{nought}
 use Rattle.lengths.specs.Line.{metresOf, nowhere}
-use Rattle.lengths.specs.Length.{onward, lengthOf, lengthTo, sumsOf, lengthsOf}
+use Rattle.running_lengths.specs.Length.{onward, lengthOf, lengthTo, sumsOf, lengthsOf}
 use Rattle.lengths.specs.declared.line.Point.{Point}
 
 -- to the first vertex it is nought
 pub first-length : (line : List Point) → lengthTo line 0 ≡ nought

@@ -1,10 +1,10 @@
 // Lengths along a line, summed from the left, one rounding for each stretch.
 ghost use mathlib.Core.Path.{_≡_};
 ghost use Rattle.lengths.specs.Line.{lineOf};
-ghost use Rattle.lengths.specs.Length.{lengthTo};
-use crate::line::metres;
-use crate::line::vertex;
-use crate::line::vertices;
+ghost use Rattle.running_lengths.specs.Length.{lengthTo};
+use lengths::metres;
+use lengths::vertex;
+use lengths::vertices;
 
 // The length along a line from its first vertex to vertex k, in metres; to its last where it has no
 // vertex k.
