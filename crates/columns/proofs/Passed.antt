@@ -11,7 +11,7 @@ use lib.IntN.{ℤ, pos}
 use lib.ListN.{length, getD}
 use lib.Signed.{ltZ, _≤ℤ_, ltZ-no}
 use Rattle.ids.proofs.ByteOrder.{clash, split}
-use Rattle.measure.specs.Globe.{onGlobe}
+use Rattle.globe.specs.Globe.{onGlobe}
 use Rattle.columns.specs.Number.{reachesAt, endsPastAt, beyond, outsideAt}
 use Rattle.columns.specs.Real.{offGlobeAt, isFinite, notFiniteAt}
 use Rattle.columns.specs.Rows.{some, counts, among}

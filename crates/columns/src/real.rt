@@ -2,7 +2,7 @@
 use crate::row::both;
 use crate::row::counted;
 use crate::row::read;
-use measure::on_globe;
+use globe::on_globe;
 ghost use mathlib.Core.Path.{_≡_};
 ghost use Prim.Native.Nat.{min};
 ghost use lib.ListN.{length};

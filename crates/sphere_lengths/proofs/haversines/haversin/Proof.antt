@@ -1,8 +1,8 @@
 use borrow.Author.Needs.{needs}
 use lib.Ieee.{ofBits, ofInt}
-use Rattle.measure.specs.Measure.{haversinOf}
-use Rattle.measure.proofs.sphere.haversin.Statement.{statement}
-use Rattle.measure.proofs.sphere.haversin.Tie as tie
+use Rattle.sphere_lengths.specs.Length.{haversinOf}
+use Rattle.sphere_lengths.proofs.haversines.haversin.Statement.{statement}
+use Rattle.sphere_lengths.proofs.haversines.haversin.Tie as tie
 
 radians-requires : tie.Need-radians-requires
 radians-requires c κs = search needs

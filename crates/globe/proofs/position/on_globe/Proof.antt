@@ -1,7 +1,7 @@
 use lib.Ieee.{ofBits, ofInt, neg}
-use Rattle.measure.specs.Globe.{onGlobe, within}
-use Rattle.measure.proofs.globe.on_globe.Statement.{statement}
-use Rattle.measure.proofs.globe.on_globe.Tie as tie
+use Rattle.globe.specs.Globe.{onGlobe, within}
+use Rattle.globe.proofs.position.on_globe.Statement.{statement}
+use Rattle.globe.proofs.position.on_globe.Tie as tie
 
 returns : tie.Need-returns
 unfolding onGlobe within ofBits ofInt neg

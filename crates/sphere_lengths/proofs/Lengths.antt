@@ -12,7 +12,7 @@ use Rattle.floats.proofs.Products.{mul-comm}
 use Rattle.floats.proofs.Within.{Within, within-finite, within-mul, int-within}
 use Rattle.maths.specs.Series.{whole}
 use Rattle.maths.proofs.Bounds.{Bounded, bounded-weaken, asin-bounded}
-use Rattle.measure.specs.Measure.{radius, haversinOf, haversineOf}
+use Rattle.sphere_lengths.specs.Length.{radius, haversinOf, haversineOf}
 
 -- ---- a product with NaN, and one with a bounded value
 pub times-nan : (x : Float) → mul binary64 x nan ≡ nan

@@ -1,7 +1,7 @@
 use borrow.Author.Needs.{needs}
-use Rattle.measure.specs.Measure.{haversineOf}
-use Rattle.measure.proofs.sphere.haversine.Statement.{statement}
-use Rattle.measure.proofs.sphere.haversine.Tie as tie
+use Rattle.sphere_lengths.specs.Length.{haversineOf}
+use Rattle.sphere_lengths.proofs.haversines.haversine.Statement.{statement}
+use Rattle.sphere_lengths.proofs.haversines.haversine.Tie as tie
 
 radians-requires : tie.Need-radians-requires
 radians-requires c κs = search needs

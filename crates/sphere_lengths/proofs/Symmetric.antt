@@ -7,7 +7,7 @@ use Rattle.floats.proofs.Signs.{Turned, sub-turned, neg-div, square-neg}
 use Rattle.maths.specs.Series.{whole}
 use Rattle.maths.specs.Trig.{sinOf, cosOf, radiansOf}
 use Rattle.maths.proofs.Odd.{radians-odd, sin-odd}
-use Rattle.measure.specs.Measure.{square, halfSine, haversinOf, haversineOf}
+use Rattle.sphere_lengths.specs.Length.{square, halfSine, haversinOf, haversineOf}
 
 abbrev halfSquare : Float → Float
 halfSquare d = square (sinOf (div binary64 (radiansOf d) (whole 2)))

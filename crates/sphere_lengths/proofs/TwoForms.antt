@@ -12,8 +12,8 @@ use Rattle.maths.specs.Series.{whole}
 use Rattle.maths.specs.Trig.{asinOf}
 use Rattle.maths.proofs.Bounds.{Bounded, asin-bounded}
 use Rattle.maths.proofs.Fits.{asin-fits}
-use Rattle.measure.specs.Measure.{radius, haversinOf, haversineOf, geoHaversineOf}
-use Rattle.measure.proofs.Lengths.{times-nan, diameter-within}
+use Rattle.sphere_lengths.specs.Length.{radius, haversinOf, haversineOf, geoHaversineOf}
+use Rattle.sphere_lengths.proofs.Lengths.{times-nan, diameter-within}
 
 -- ---- the two forms of the length
 two-is : whole 2 ≡ two

@@ -1,8 +1,8 @@
 use borrow.Author.Needs.{needs}
 use mathlib.Core.Path.{sym, _∙_}
-use Rattle.measure.specs.Globe.{bothOnGlobe}
-use Rattle.measure.proofs.answer.both_on_globe.Statement.{statement}
-use Rattle.measure.proofs.answer.both_on_globe.Tie as tie
+use Rattle.globe.specs.Globe.{bothOnGlobe}
+use Rattle.globe.proofs.position.both_on_globe.Statement.{statement}
+use Rattle.globe.proofs.position.both_on_globe.Tie as tie
 
 on-globe-requires : tie.Need-on-globe-requires
 on-globe-requires c κs = search needs

@@ -1,7 +1,7 @@
 use borrow.Author.Needs.{needs}
 use lib.Ieee.{ofBits, ofInt}
-use Rattle.measure.proofs.sphere.way.Statement.{statement}
-use Rattle.measure.proofs.sphere.way.Tie as tie
+use Rattle.sphere_lengths.proofs.haversines.way.Statement.{statement}
+use Rattle.sphere_lengths.proofs.haversines.way.Tie as tie
 
 root-requires : tie.Need-root-requires
 root-requires c κs = search needs
