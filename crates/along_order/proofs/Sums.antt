@@ -12,7 +12,7 @@ use Rattle.floats.proofs.Own.{nought-fits}
 use Rattle.floats.proofs.Sums.{add-nonneg, add-up}
 use Rattle.floats.proofs.Within.{Within, within-add, within-weaken}
 use Rattle.arcs.proofs.Bounds.{Bounded}
-use Rattle.measure.proofs.Lengths.{length-bounded}
+use Rattle.sphere_lengths.proofs.Lengths.{length-bounded}
 use Rattle.lengths.specs.declared.line.Point.{Point}
 use Rattle.line_parts.specs.Part.{at, stretches, stretchLength, lengthFrom}
 use Rattle.line_parts.specs.declared.part.Part.{Part}

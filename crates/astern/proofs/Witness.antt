@@ -13,7 +13,7 @@ use Rattle.ids.specs.declared.lookup.Found.{Found}
 use Rattle.ids.specs.declared.lookup.Found.the-variants.{At, Nothing}
 use Rattle.ids.proofs.ByteOrder.{clash}
 use Rattle.measure.specs.Answer.{given}
-use Rattle.measure.specs.Globe.{onGlobe, within}
+use Rattle.globe.specs.Globe.{onGlobe, within}
 use Rattle.columns.specs.Number.{reachesAt, endsPastAt, beyond, outsideAt}
 use Rattle.column_floats.specs.Real.{offGlobeAt}
 use Rattle.columns.specs.Rows.{some, counts, among, bitOf}

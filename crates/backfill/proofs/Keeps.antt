@@ -8,7 +8,7 @@ use lib.Ieee.{nan}
 use lib.ListN.{length, getD}
 use Rattle.ids.specs.declared.lookup.Found.{Found}
 use Rattle.ids.specs.declared.lookup.Found.the-variants.{At, Nothing}
-use Rattle.lengths.specs.Length.{lengthTo}
+use Rattle.running_lengths.specs.Length.{lengthTo}
 use Rattle.lengths.specs.declared.line.Point.{Point}
 use Rattle.projection.specs.Projection.{projectionOf}
 use Rattle.projection.specs.declared.cursor.Position.{Position}

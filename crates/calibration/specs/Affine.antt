@@ -3,7 +3,7 @@ use mathlib.Core.Bool.{cond}
 use mathlib.Core.List.{List}
 use lib.Dec.{ltb}
 use lib.ListN.{length}
-use Rattle.lengths.specs.Length.{lengthTo}
+use Rattle.running_lengths.specs.Length.{lengthTo}
 use Rattle.lengths.specs.declared.line.Point.{Point}
 use Rattle.near_vertex.specs.Forward.{forwardShapeIndex, forwardLastIndex}
 use Rattle.unit_scales.specs.Metres.{affineBetween}

@@ -3,10 +3,10 @@ ghost use mathlib.Core.Path.{_≡_};
 ghost use Rattle.lengths.specs.Line.{lineOf};
 ghost use Rattle.calibration.specs.Affine.{shapeDistAffine};
 use lengths::Point;
-use lengths::length_to;
 use lengths::vertices;
 use near_vertex::forward_last_index;
 use near_vertex::forward_shape_index;
+use running_lengths::length_to;
 use unit_scales::Calibrated;
 use unit_scales::between;
 

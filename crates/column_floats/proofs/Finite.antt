@@ -6,7 +6,7 @@ use mathlib.Core.List.{List}
 use borrow.Author.Tests.{not-false}
 use lib.Ieee.{Float, nan}
 use lib.ListN.{length, getD}
-use Rattle.measure.specs.Globe.{onGlobe}
+use Rattle.globe.specs.Globe.{onGlobe}
 use Rattle.column_floats.specs.Real.{offGlobeAt, isFinite, notFiniteAt}
 use Rattle.columns.specs.Rows.{some, counts, among}
 use Rattle.columns.proofs.Passed.{no-fault}

@@ -4,7 +4,7 @@ use mathlib.Core.Bool.{Bool, true, false, not}
 use mathlib.Core.List.{List}
 use lib.Ieee.{Float, nan, inf, fin}
 use lib.ListN.{getD}
-use Rattle.measure.specs.Globe.{onGlobe}
+use Rattle.globe.specs.Globe.{onGlobe}
 
 -- position k is not on the globe
 unfoldable pub offGlobeAt : List Float → List Float → ℕ → Bool

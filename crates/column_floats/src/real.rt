@@ -2,7 +2,7 @@
 use columns::both;
 use columns::counted;
 use columns::read;
-use measure::on_globe;
+use globe::on_globe;
 ghost use mathlib.Core.Path.{_≡_};
 ghost use Prim.Native.Nat.{min};
 ghost use lib.ListN.{length};

@@ -6,7 +6,7 @@ use lib.Ieee.{Float, binary64, ofInt, add, lt, eq, le, fits}
 use lib.Ieee.Fits.{mul-fits}
 use Rattle.floats.proofs.Order.{nought, lt-le, trans-le, le-number-left, le-number-right}
 use Rattle.floats.proofs.Sums.{add-number-right, add-up, add-mono}
-use Rattle.measure.specs.Measure.{wayOf}
+use Rattle.sphere_lengths.specs.Length.{wayOf}
 use Rattle.distance_sweep.specs.Nearest.{slack}
 use Rattle.vertices_within.proofs.Truth.{no}
 

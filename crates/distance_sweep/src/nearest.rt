@@ -2,15 +2,15 @@
 // the vertices near the least as answers most searches for the first of them.
 ghost use mathlib.Core.Path.{_≡_};
 ghost use Rattle.lengths.specs.Line.{lineOf};
-ghost use Rattle.measure.specs.Measure.{wayOf};
+ghost use Rattle.sphere_lengths.specs.Length.{wayOf};
 ghost use Rattle.reach.specs.Reach.{Beyond};
 ghost use Rattle.distance_sweep.specs.Nearest.{Nears, boundOf, nextOf};
 use lengths::Point;
 use lengths::vertices;
 use maths::cos;
 use maths::radians;
-use measure::way;
 use reach::is_beyond;
+use sphere_lengths::way;
 use vertices_within::aside;
 use vertices_within::far;
 

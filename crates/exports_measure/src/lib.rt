@@ -1,7 +1,8 @@
 // The C names of the measure: the length and the bearing of the way between two positions. Each answers what the function that it calls does.
 ghost use mathlib.Core.Path.{_≡_};
 ghost use Rattle.measure.specs.Answer.{answerOf, numberOf, valueOr};
-ghost use Rattle.measure.specs.Measure.{measured, haversineOf, bearingOf};
+ghost use Rattle.measure.specs.Measure.{measured, bearingOf};
+ghost use Rattle.sphere_lengths.specs.Length.{haversineOf};
 use measure::Measured;
 
 // 0 and the value in out, or the refusal's number with out as it was.

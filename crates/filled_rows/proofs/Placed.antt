@@ -5,7 +5,7 @@ use mathlib.Core.Path.{_≡_}
 use mathlib.Core.List.{List}
 use lib.Ieee.{Float}
 use lib.ListN.{length}
-use Rattle.lengths.specs.Length.{lengthTo}
+use Rattle.running_lengths.specs.Length.{lengthTo}
 use Rattle.lengths.specs.declared.line.Point.{Point}
 use Rattle.near_vertex.specs.Forward.{startOf}
 use Rattle.projection.specs.Projection.{stepOf}

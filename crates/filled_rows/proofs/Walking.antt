@@ -7,9 +7,9 @@ use lib.Ieee.{Float}
 use lib.ListN.{length, length-set, take, drop, getD, set, take-append-drop}
 use lib.Seq.{take-suc-set, drop-set-lt}
 use Rattle.floats.specs.Number.{nought}
-use Rattle.lengths.specs.Length.{lengthTo}
+use Rattle.running_lengths.specs.Length.{lengthTo}
 use Rattle.lengths.specs.declared.line.Point.{Point}
-use Rattle.lengths.proofs.Running.{first-length}
+use Rattle.running_lengths.proofs.Running.{first-length}
 use Rattle.projection.specs.Projection.{projectionFrom, projectionOf, stepOf}
 use Rattle.projection.specs.declared.cursor.Position.{Position}
 use Rattle.projection.specs.declared.cursor.Position.the-variants.{Known, Missing}

@@ -10,7 +10,7 @@ ghost use mathlib.Core.Path.{_≡_};
 ghost use Prim.Native.Nat.{_≤_, _<_};
 ghost use lib.ListN.{length};
 ghost use Rattle.lengths.specs.Line.{lineOf};
-ghost use Rattle.lengths.specs.Length.{lengthTo};
+ghost use Rattle.running_lengths.specs.Length.{lengthTo};
 ghost use Rattle.filled_rows.specs.Walk.{walkedOf};
 
 // The length along a line to a vertex, from that to an earlier one.

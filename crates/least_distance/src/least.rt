@@ -5,15 +5,15 @@ ghost use mathlib.Core.Bool.{cond};
 ghost use lib.Ieee.{le};
 ghost use lib.ListN.{drop};
 ghost use Rattle.lengths.specs.Line.{lineOf};
-ghost use Rattle.measure.specs.Measure.{wayOf};
+ghost use Rattle.sphere_lengths.specs.Length.{wayOf};
 ghost use Rattle.reach.specs.Reach.{Beyond};
 ghost use Rattle.vertices_within.specs.Near.{distancesOf, leastIn};
 use lengths::Point;
 use lengths::vertices;
 use maths::cos;
 use maths::radians;
-use measure::way;
 use reach::is_beyond;
+use sphere_lengths::way;
 use vertices_within::aside;
 use vertices_within::far;
 

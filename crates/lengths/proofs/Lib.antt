@@ -1,3 +1,2 @@
--- `Rows`: what the columns' rows are of a line. `Running`: the length to each vertex.
+-- `Rows`: what the columns' rows are of a line.
 pub mod Rows
-pub mod Running

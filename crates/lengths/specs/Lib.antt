@@ -1,3 +1,2 @@
--- What the contracts cite. `Line`: points, and a line of two columns. `Length`: lengths along a line.
+-- What the contracts cite. `Line`: points, and a line of two columns.
 pub mod Line
-pub mod Length

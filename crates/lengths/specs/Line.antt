@@ -1,7 +1,7 @@
 -- Points, and the line of two columns. Definitions only.
 use mathlib.Core.List.{List, [], _∷_}
 use lib.Ieee.{Float, nan}
-use Rattle.measure.specs.Measure.{haversineOf}
+use Rattle.sphere_lengths.specs.Length.{haversineOf}
 use Rattle.lengths.specs.declared.line.Point.{Point}
 
 -- how far b is from a, in metres

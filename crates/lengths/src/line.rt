@@ -3,7 +3,7 @@ ghost use mathlib.Core.Path.{_≡_};
 ghost use Prim.Native.Nat.{_<_};
 ghost use lib.ListN.{length, getD};
 ghost use Rattle.lengths.specs.Line.{lineOf, metresOf, nowhere};
-use measure::haversine;
+use sphere_lengths::haversine;
 
 // A position, in degrees: a vertex's or a stop's.
 pub struct Point {

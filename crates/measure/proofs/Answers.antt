@@ -3,7 +3,7 @@ use mathlib.Core.Path.{_≡_, ap}
 use mathlib.Core.Bool.{true, false}
 use lib.Ieee.{Float}
 use Rattle.measure.specs.Answer.{refused, given}
-use Rattle.measure.specs.Globe.{bothOnGlobe}
+use Rattle.globe.specs.Globe.{bothOnGlobe}
 use Rattle.measure.specs.Measure.{measured}
 
 module _ (f : Float → Float → Float → Float → Float) (lat1 lon1 lat2 lon2 : Float) where

@@ -1,5 +1,2 @@
--- What the measures answer; and of lengths, how large they get, that their two forms agree, and that they are the same both ways.
+-- What the measures answer.
 pub mod Answers
-pub mod Lengths
-pub mod TwoForms
-pub mod Symmetric

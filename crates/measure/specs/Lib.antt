@@ -1,3 +1,3 @@
+-- `Answer`: a refusal or a value. `Measure`: bearings, and measures as operations.
 pub mod Answer
-pub mod Globe
 pub mod Measure

@@ -1,11 +1,11 @@
 // The measures as operations on any positions.
 ghost use mathlib.Core.Path.{_≡_};
 ghost use Rattle.measure.specs.Answer.{answerOf};
-ghost use Rattle.measure.specs.Globe.{bothOnGlobe};
-ghost use Rattle.measure.specs.Measure.{measured, haversineOf, bearingOf};
-use crate::globe::on_globe;
+ghost use Rattle.measure.specs.Measure.{measured, bearingOf};
+ghost use Rattle.sphere_lengths.specs.Length.{haversineOf};
 use crate::sphere::bearing;
-use crate::sphere::haversine;
+use globe::both_on_globe;
+use sphere_lengths::haversine;
 
 // The answer of a measure.
 pub enum Measured {
@@ -31,13 +31,4 @@ pub fn bearing_deg(lat1: f64, lon1: f64, lat2: f64, lon2: f64) -> Measured
         return Measured::Value(bearing(lat1, lon1, lat2, lon2));
     }
     Measured::OffGlobe
-}
-
-fn both_on_globe(lat1: f64, lon1: f64, lat2: f64, lon2: f64) -> bool
-    ensures { λ r. ⌜ r ≡ bothOnGlobe lat1 lon1 lat2 lon2 ⌝ }
-{
-    if on_globe(lat1, lon1) {
-        return on_globe(lat2, lon2);
-    }
-    false
 }

@@ -1,36 +1,9 @@
-// Lengths and bearings between positions that are known to be on the globe.
+// The bearing between positions that are known to be on the globe.
 ghost use mathlib.Core.Path.{_≡_};
-ghost use Rattle.maths.specs.Trig.{cosOf, radiansOf};
-ghost use Rattle.measure.specs.Measure.{haversinOf, wayOf, haversineOf, bearingOf};
-use crate::globe::Globe;
+ghost use Rattle.measure.specs.Measure.{bearingOf};
 use maths::cos;
 use maths::radians;
 use maths::sin;
-
-// What the length is the way of, where the cosine of the first latitude is known.
-pub fn haversin(lat1: f64, lon1: f64, c1: f64, lat2: f64, lon2: f64) -> f64
-    requires { ⌜ c1 ≡ cosOf (radiansOf lat1) ⌝ }
-    ensures { λ r. ⌜ r ≡ haversinOf lat1 lon1 lat2 lon2 ⌝ }
-{
-    let s1 = sin(radians(lat2 - lat1) / 2.0);
-    let s2 = sin(radians(lon2 - lon1) / 2.0);
-    let c2 = cos(radians(lat2));
-    s1 * s1 + c1 * c2 * (s2 * s2)
-}
-
-// The way of that, in metres.
-pub fn way(a: f64) -> f64
-    ensures { λ r. ⌜ r ≡ wayOf a ⌝ }
-{
-    2.0 * Globe::RADIUS * arcs::asin(roots::root(a))
-}
-
-// The length of the way from one position to another, in metres.
-pub fn haversine(lat1: f64, lon1: f64, lat2: f64, lon2: f64) -> f64
-    ensures { λ r. ⌜ r ≡ haversineOf lat1 lon1 lat2 lon2 ⌝ }
-{
-    way(haversin(lat1, lon1, cos(radians(lat1)), lat2, lon2))
-}
 
 // The bearing at the first position of the way to the second, in degrees from north, clockwise.
 pub fn bearing(lat1: f64, lon1: f64, lat2: f64, lon2: f64) -> f64

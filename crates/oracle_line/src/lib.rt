@@ -8,7 +8,7 @@ pub use drawn::zebumorn_interpolate_shape_by_dist;
 pub use drawn::zebumorn_interpolate_shape_by_feed_dist;
 pub use drawn::zebumorn_nearest_idx;
 ghost use mathlib.Core.Path.{_≡_};
-ghost use Rattle.lengths.specs.Length.{lengthTo};
+ghost use Rattle.running_lengths.specs.Length.{lengthTo};
 ghost use Rattle.lengths.specs.Line.{lineOf};
 ghost use Rattle.near_vertex.specs.Forward.{forwardLastIndex, forwardShapeIndex, orVertex};
 ghost use Rattle.projection.specs.Projection.{passedOf};
@@ -25,7 +25,7 @@ use unit_scales::Calibrated;
 pub extern "C" fn zebumorn_length_to(lat: &[f64], lon: &[f64], k: usize) -> f64
     ensures { λ r. ⌜ r ≡ lengthTo (lineOf (now (lat .entry)) (now (lon .entry))) k ⌝ }
 {
-    lengths::length_to(lat, lon, k)
+    running_lengths::length_to(lat, lon, k)
 }
 
 #[no_mangle]

@@ -19,7 +19,7 @@ use Rattle.roots.proofs.Roots.{root-mono, root-number, root-nonneg, root-one}
 use Rattle.maths.specs.Series.{whole, onFrom, horner, atanC}
 use Rattle.arcs.specs.Arcs.{halveOf, fourTimes, atanOf, angleOf, turnedOf, atan2Of, asinOf}
 use Rattle.arcs.proofs.Bounds.{InUnit, unit-within, on-within, coefficient-within, atan-within}
-use Rattle.measure.specs.Measure.{radius, wayOf}
+use Rattle.sphere_lengths.specs.Length.{radius, wayOf}
 use Rattle.reach.specs.Reach.{divisor, series, lowOf, nearby}
 use Rattle.reach.proofs.Quotients.{div-falls}
 

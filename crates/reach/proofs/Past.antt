@@ -7,7 +7,7 @@ use lib.Dec.{T}
 use lib.Ieee.{Float, nan, inf, fin, lt, le}
 use Rattle.ids.proofs.ByteOrder.{clash}
 use Rattle.roots.specs.Root.{rootOf}
-use Rattle.measure.specs.Measure.{wayOf}
+use Rattle.sphere_lengths.specs.Length.{wayOf}
 use Rattle.reach.specs.Reach.{Beyond, isBeyond, lowOf, nearby}
 use Rattle.reach.proofs.Low.{past}
 

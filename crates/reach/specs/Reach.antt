@@ -4,7 +4,7 @@ use mathlib.Core.Bool.{Bool, true, false, _&&_}
 use lib.Ieee.{Float, binary64, mul, div, lt, le, ofBits}
 use Rattle.floats.specs.Number.{one}
 use Rattle.maths.specs.Series.{whole}
-use Rattle.measure.specs.Measure.{radius, wayOf}
+use Rattle.sphere_lengths.specs.Length.{radius, wayOf}
 
 -- the divisor of a halving, at most: 2.125
 abbrev pub divisor : Float

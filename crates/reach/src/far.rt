@@ -1,8 +1,8 @@
 // The limit past which no way is as short as a bound.
 ghost use mathlib.Core.Path.{_≡_};
 ghost use Rattle.reach.specs.Reach.{Beyond, isBeyond, lowOf};
-use measure::Globe;
 use roots::root;
+use sphere_lengths::Globe;
 
 // How long a way is at least whose sine of half its angle is s, for an s of at most an eighth.
 fn low(s: f64) -> f64

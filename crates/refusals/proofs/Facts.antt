@@ -17,7 +17,7 @@ use Rattle.ids.specs.declared.order.Order.the-variants.{Less}
 use Rattle.ids.specs.declared.pool.IdColumn.{IdColumn}
 use Rattle.ids.specs.declared.pool.Span.{Span}
 use Rattle.ids.proofs.ByteOrder.{clash}
-use Rattle.measure.specs.Globe.{onGlobe}
+use Rattle.globe.specs.Globe.{onGlobe}
 use Rattle.column_floats.specs.Real.{isFinite}
 use Rattle.columns.specs.Rows.{counts}
 use Rattle.columns.proofs.Passed.{fails, below-bound, ends-within, in-range}

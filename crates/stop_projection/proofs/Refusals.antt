@@ -9,7 +9,7 @@ use lib.Ieee.{Float}
 use lib.ListN.{length}
 use Rattle.column_floats.specs.Real.{offGlobeAt}
 use Rattle.columns.specs.Rows.{among, counts, some}
-use Rattle.measure.specs.Globe.{onGlobe}
+use Rattle.globe.specs.Globe.{onGlobe}
 use Rattle.lengths.specs.declared.line.Point.{Point}
 use Rattle.stop_projection.specs.Step.{stepRefusal}
 

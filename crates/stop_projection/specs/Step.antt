@@ -8,7 +8,7 @@ use lib.ListN.{length}
 use Rattle.column_floats.specs.Real.{offGlobeAt}
 use Rattle.columns.specs.Rows.{some}
 use Rattle.measure.specs.Answer.{Answer, refused, given}
-use Rattle.measure.specs.Globe.{onGlobe}
+use Rattle.globe.specs.Globe.{onGlobe}
 use Rattle.answers.specs.Answers.{unlessRefused}
 use Rattle.lengths.specs.Line.{lineOf}
 use Rattle.lengths.specs.declared.line.Point.{Point}

@@ -26,7 +26,7 @@ fn refusal(lat: &[f64], lon: &[f64], stop: Point) -> u32
     if column_floats::off_globe(lat, lon, b"", true) {
         return 3;
     }
-    if measure::on_globe(stop.lat, stop.lon) {
+    if globe::on_globe(stop.lat, stop.lon) {
         return 0;
     }
     3

@@ -9,7 +9,7 @@ use texts::begins;
 
 pub(crate) fn answer(lat: &[f64], lon: &[f64], words: &[u8]) {
     if begins(words, b"length ") {
-        tell::double(lengths::length_to(lat, lon, index(words, 7)));
+        tell::double(running_lengths::length_to(lat, lon, index(words, 7)));
     } else if begins(words, b"first ") {
         tell::number(near_vertex::forward_shape_index(lat, lon, index(words, 6), point(words, 15)));
     } else if begins(words, b"last ") {

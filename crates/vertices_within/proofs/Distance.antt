@@ -3,7 +3,7 @@ use mathlib.Core.Path.{_≡_, refl}
 use lib.Dec.{T}
 use lib.Ieee.{binary64, fits}
 use lib.Ieee.Fits.{mul-fits}
-use Rattle.measure.specs.Measure.{haversineOf, wayOf}
+use Rattle.sphere_lengths.specs.Length.{haversineOf, wayOf}
 use Rattle.lengths.specs.Line.{metresOf}
 use Rattle.lengths.specs.declared.line.Point.{Point}
 use Rattle.vertices_within.specs.Near.{asideOf}

@@ -8,7 +8,7 @@ use Rattle.ids.specs.declared.lookup.Found.{Found}
 use Rattle.ids.specs.declared.lookup.Found.the-variants.{At, Nothing}
 use Rattle.ieee.specs.Number.{leastOf}
 use Rattle.lengths.specs.Line.{metresOf, nowhere}
-use Rattle.measure.specs.Measure.{haversinOf}
+use Rattle.sphere_lengths.specs.Length.{haversinOf}
 use Rattle.lengths.specs.declared.line.Point.{Point}
 
 -- what the distance from a stop to a vertex is the way of

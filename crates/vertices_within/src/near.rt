@@ -6,7 +6,7 @@ ghost use lib.Ieee.{le};
 ghost use lib.ListN.{length, drop, getD};
 ghost use Rattle.lengths.specs.Line.{lineOf, nowhere};
 ghost use Rattle.maths.specs.Trig.{cosOf, radiansOf};
-ghost use Rattle.measure.specs.Measure.{wayOf};
+ghost use Rattle.sphere_lengths.specs.Length.{wayOf};
 ghost use Rattle.reach.specs.Reach.{Beyond};
 ghost use Rattle.vertices_within.specs.Near.{asideOf, distancesOf, firstWithin, lastWithin};
 use ids::Found;
@@ -15,10 +15,10 @@ use lengths::vertex;
 use lengths::vertices;
 use maths::cos;
 use maths::radians;
-use measure::haversin;
-use measure::way;
 use reach::is_beyond;
 use reach::limit;
+use sphere_lengths::haversin;
+use sphere_lengths::way;
 
 // What the distance from the stop to vertex k is the way of. c is the cosine of the stop's latitude.
 pub fn aside(lat: &[f64], lon: &[f64], stop: Point, c: f64, k: usize) -> f64

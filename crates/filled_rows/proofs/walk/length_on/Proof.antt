@@ -3,8 +3,8 @@ use Prim.Native.Nat.{_-_, _≤_}
 use native.Mathlib.Omega.{arith}
 use mathlib.Core.Path.{_≡_, sym, ap, _∙_}
 use Rattle.lengths.specs.Line.{lineOf}
-use Rattle.lengths.specs.Length.{lengthTo}
-use Rattle.lengths.proofs.Running.{next-length}
+use Rattle.running_lengths.specs.Length.{lengthTo}
+use Rattle.running_lengths.proofs.Running.{next-length}
 use Rattle.filled_rows.proofs.walk.length_on.Statement.{statement}
 use Rattle.filled_rows.proofs.walk.length_on.Tie as tie
 

@@ -1,6 +1,6 @@
 use borrow.Author.Needs.{needs}
 use mathlib.Core.Path.{sym, _∙_}
-use Rattle.measure.specs.Measure.{haversineOf}
+use Rattle.sphere_lengths.specs.Length.{haversineOf}
 use Rattle.measure.proofs.Answers.{one-off, both-on}
 use Rattle.measure.proofs.answer.haversine_m.Statement.{statement}
 use Rattle.measure.proofs.answer.haversine_m.Tie as tie

@@ -1,0 +1,2 @@
+-- `Globe`: which positions are on the globe.
+pub mod Globe

@@ -1,0 +1,2 @@
+-- `Running`: the length to each vertex.
+pub mod Running

@@ -1,0 +1,2 @@
+-- What the contracts cite. `Length`: lengths along a line.
+pub mod Length
