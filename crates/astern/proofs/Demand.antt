@@ -16,7 +16,7 @@ use Rattle.timeline.specs.Turn.{timeAt}
 use Rattle.row_lists.specs.Rows.{passing}
 use Rattle.calls.specs.Calls.{callRows, callArrivals}
 use Rattle.best_rows.specs.Serving.{bestBelow, bestRow}
-use Rattle.sailings.specs.Sailing.{clockOf}
+use Rattle.sailing_rows.specs.Rows.{clockOf}
 use Rattle.estimate_facts.proofs.Asked.{clock-bound, arrivals-bound}
 use Rattle.voyages.specs.Outcome.{outcomeAt}
 use Rattle.voyages.specs.declared.record.Outcome.{Outcome}

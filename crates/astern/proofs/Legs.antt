@@ -26,7 +26,8 @@ use Rattle.sailings.specs.Sailing.{sailingTrip}
 use Rattle.estimate_facts.proofs.Trips.{column-few, sailing-trip-is, trip-rows, rows-few, span-few}
 use Rattle.voyage_order.specs.Agree.{Agreed, AgreedApproach, AgreedLegs}
 use Rattle.voyage_order.specs.Astern.{Ordered, OrderedApproach, Steady}
-use Rattle.plans.specs.Plan.{courseOf, callEnd, rowEnd, legBetween, approachFrom, approachTo, voyageFrom, voyageOf}
+use Rattle.call_places.specs.Places.{callEnd}
+use Rattle.plans.specs.Plan.{courseOf, rowEnd, legBetween, approachFrom, approachTo, voyageFrom, voyageOf}
 use Rattle.astern.specs.Clocks.{GrantedLeg, GrantedApproach, GrantedVoyage}
 
 module _ (p : Pools) (t : Tables) where

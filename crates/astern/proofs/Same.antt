@@ -20,7 +20,8 @@ use Rattle.update_times.specs.Times.{arrivalOf, departureOf}
 use Rattle.first_departures.specs.Firsts.{firstBelow, firstDeparture}
 use Rattle.best_rows.specs.Serving.{bestRow}
 use Rattle.calls.proofs.Calls.{call-row}
-use Rattle.sailings.specs.Sailing.{offsetOf, routeOf, tripFrom, sailingTrip}
+use Rattle.sailing_rows.specs.Rows.{offsetOf, routeOf}
+use Rattle.sailings.specs.Sailing.{tripFrom, sailingTrip}
 use Rattle.estimate_facts.proofs.Asked.{arrivals-sized, departures-sized, offset-sized}
 use Rattle.astern.specs.Clocks.{SameButClock, SameMatch}
 

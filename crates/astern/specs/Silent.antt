@@ -7,7 +7,7 @@ use Rattle.tables.specs.Pools.{Pools}
 use Rattle.tables.specs.declared.lent.Tables.{Tables}
 use Rattle.calls.specs.Calls.{reportedOf, callRows}
 use Rattle.best_rows.specs.Serving.{bestRow}
-use Rattle.sailings.specs.Sailing.{isCancelled}
+use Rattle.sailing_rows.specs.Rows.{isCancelled}
 use Rattle.voyages.specs.Voyage.{unplaced}
 use Rattle.plans.specs.Plan.{pinAt}
 

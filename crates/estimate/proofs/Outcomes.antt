@@ -12,7 +12,8 @@ use Rattle.timeline.specs.Turn.{turnOf}
 use Rattle.calls.specs.Calls.{reportedOf, callRows, callStops, callArrivals, callDepartures}
 use Rattle.update_times.specs.Times.{arrivalOf, departureOf}
 use Rattle.best_rows.specs.Serving.{bestRow}
-use Rattle.sailings.specs.Sailing.{isCancelled, clockOf, sailingTrip}
+use Rattle.sailing_rows.specs.Rows.{isCancelled, clockOf}
+use Rattle.sailings.specs.Sailing.{sailingTrip}
 use Rattle.voyages.specs.Outcome.{atPin, atTurn, outcomeAt}
 use Rattle.voyages.specs.declared.record.Outcome.the-variants.{Silence}
 use Rattle.plans.specs.Plan.{pinAt, voyageFrom, voyageOf}

@@ -6,7 +6,7 @@ use Rattle.tables.specs.Bounds.{chartBounds}
 use Rattle.refusals.specs.Refuse.{refusalOf}
 use Rattle.tables.specs.declared.lent.Tables.{Tables}
 use Rattle.checks.specs.Operations.{estimateCauses}
-use Rattle.sailings.specs.Sailing.{clockOf}
+use Rattle.sailing_rows.specs.Rows.{clockOf}
 use Rattle.timeline.specs.Turn.{turnOf}
 use Rattle.voyages.specs.Outcome.{atTurn, outcomeAt}
 use Rattle.voyages.specs.declared.record.Outcome.{Outcome}

@@ -22,7 +22,8 @@ use Rattle.checks.specs.Operations.{estimateCauses}
 use Rattle.checks.proofs.Operations.{Estimate, estimate-holds}
 use Rattle.matching.specs.Matching.{Ready}
 use Rattle.moments.specs.Moments.{InReach}
-use Rattle.timetable.specs.Timetable.{namedOf, planOf}
+use Rattle.lent_plans.specs.Plans.{planOf}
+use Rattle.timetable.specs.Timetable.{namedOf}
 use Rattle.timetable.proofs.Holds.{found-ready, in-reach}
 use Rattle.calls.specs.Calls.{reportedOf, callRows, callStops, callArrivals, callDepartures}
 use Rattle.calls.specs.Calls.{Ready as CallsReady}
@@ -32,7 +33,8 @@ use Rattle.first_departures.specs.Firsts.{leastOf, firstBelow, firstDeparture}
 use Rattle.first_departures.specs.declared.first.Moment.{Moment}
 use Rattle.first_departures.specs.declared.first.Moment.the-variants.{At, Nothing}
 use Rattle.calls.proofs.Calls.{stops-count, call-row, call-found, call-timed}
-use Rattle.sailings.specs.Sailing.{clockOf, offsetOf, localAt, InTime}
+use Rattle.sailing_rows.specs.Rows.{clockOf, offsetOf}
+use Rattle.sailings.specs.Sailing.{localAt, InTime}
 use Rattle.estimate_facts.proofs.Columns.{set-counts, time-between, moment-most, id-short}
 
 -- Two moments, of which one at least is set: each, and the other where it is not set, is by then where those that are set are.

@@ -29,7 +29,8 @@ use Rattle.lengths.proofs.Rows.{vertex-count}
 use Rattle.trip_rows.specs.Rows.{shapeSpan, tripSpan, shapeColumn, tripLine}
 use Rattle.trip_ids.specs.Trips.{tripOf}
 use Rattle.stop_rows.specs.Rows.{isPositioned}
-use Rattle.timetable.specs.Timetable.{namedOf, planOf}
+use Rattle.lent_plans.specs.Plans.{planOf}
+use Rattle.timetable.specs.Timetable.{namedOf}
 use Rattle.timetable.proofs.Holds.{flag-counts}
 use Rattle.match_facts.proofs.Matched.{id-holds, match-holds}
 use Rattle.calls.specs.Calls.{reportedOf, callStops}

@@ -3,7 +3,7 @@ use ids::IdColumn;
 use journey_rules::JourneyLegs;
 use journeys::journey_geometry;
 use leg_drawing::leg_geometry;
-use point_columns::Drawing;
+use refusal_numbers::told_drawing;
 use tables::LegAsked;
 use tables::Tables;
 ghost use mathlib.Core.Path.{_≡_};
@@ -12,24 +12,10 @@ ghost use Rattle.tables.specs.Pools.{pools};
 ghost use Rattle.tables.specs.Bounds.{chartBounds};
 ghost use Rattle.refusals.specs.Refuse.{refusalOf};
 ghost use Rattle.geometry_checks.specs.Operations.{legCauses};
-ghost use Rattle.point_columns.specs.Answers.{drawingAnswer, drawnAnswer, latAfter, lonAfter};
+ghost use Rattle.point_columns.specs.Answers.{drawnAnswer, latAfter, lonAfter};
 ghost use Rattle.leg_drawing.specs.Trip.{askedPoints};
 ghost use Rattle.journey_rules.specs.Causes.{journeyCauses};
 ghost use Rattle.journey_points.specs.Journey.{journeyPoints};
-
-// 0, with how many points in `points`, or the refusal's number, with `points` as it was.
-fn told(d: Drawing, points: &mut usize) -> u32
-    ensures { λ r. ⌜ r ≡ numberOf (drawingAnswer d) ⌝ }
-    ensures { λ _. ⌜ now (points .exit) ≡ valueOr (now (points .entry)) (drawingAnswer d) ⌝ }
-{
-    match d {
-        Drawing::Points(n) => {
-            *points = n;
-            0
-        }
-        Drawing::Refused(number) => number,
-    }
-}
 
 #[no_mangle]
 pub extern "C" fn zebumorn_leg_geometry(
@@ -65,7 +51,7 @@ pub extern "C" fn zebumorn_leg_geometry(
         lat,
         lon,
     );
-    told(drawing, points)
+    told_drawing(drawing, points)
 }
 
 #[no_mangle]
@@ -86,5 +72,5 @@ pub extern "C" fn zebumorn_journey_geometry(
     ensures { λ _. ⌜ now (lon .exit) ≡ lonAfter (refusalOf (pools (now (bytes .entry)) (now (words .entry)) (now (times .entry)) (now (reals .entry)) (now (dists .entry))) (journeyCauses chartBounds j)) (journeyPoints (now (bytes .entry)) (now (words .entry)) (now (reals .entry)) j) (now (lat .entry)) (now (lon .entry)) ⌝ }
 {
     let drawing = journey_geometry(bytes, words, times, reals, dists, j, lat, lon);
-    told(drawing, points)
+    told_drawing(drawing, points)
 }

@@ -1,25 +1,16 @@
 // A date's refusal, day and weekday.
-use days::ReadDate;
+use refusal_numbers::told_date;
 ghost use mathlib.Core.Path.{_≡_};
 ghost use Rattle.days.specs.Days.{dayOf};
 ghost use Rattle.day_counts.specs.Weekdays.{weekdayOf};
 ghost use Rattle.days.specs.Read.{readDateOf, refusalOf};
-
-fn number(read: ReadDate) -> u32
-    ensures { λ r. ⌜ r ≡ refusalOf read ⌝ }
-{
-    match read {
-        ReadDate::Day(_) => 0,
-        ReadDate::NotADate => 10,
-    }
-}
 
 // 0 for a date, or the refusal's number.
 #[no_mangle]
 pub extern "C" fn zebumorn_read_date(n: u32) -> u32
     ensures { λ r. ⌜ r ≡ refusalOf (readDateOf n) ⌝ }
 {
-    number(days::read_date(n))
+    told_date(days::read_date(n))
 }
 
 // The day that a date is read as.

@@ -17,7 +17,8 @@ use Rattle.legs.specs.declared.walk.Walked.{Walked}
 use Rattle.voyages.specs.Record.{onLeg}
 use Rattle.voyages.specs.Outcome.{walkLeg, approachStatus, approaching, underWayAt}
 use Rattle.voyages.specs.declared.record.Outcome.{Outcome}
-use Rattle.plans.specs.Plan.{callEnd, rowEnd, legBetween, approachFrom, voyageFrom}
+use Rattle.call_places.specs.Places.{callEnd}
+use Rattle.plans.specs.Plan.{rowEnd, legBetween, approachFrom, voyageFrom}
 
 -- to the first call, from a row of the stop times
 pub approach-is : (p : Pools) (t : Tables) (trip : Found) (rows stops arrs deps : List ℕ) (clock row : ℕ)

@@ -13,13 +13,15 @@ use Rattle.tables.specs.declared.lent.Tables.{Tables}
 use Rattle.checks.specs.Operations.{estimateCauses}
 use Rattle.matching.specs.Matching.{Ready}
 use Rattle.moments.specs.Moments.{InReach}
-use Rattle.timetable.specs.Timetable.{namedOf, planOf}
+use Rattle.lent_plans.specs.Plans.{planOf}
+use Rattle.timetable.specs.Timetable.{namedOf}
 use Rattle.timeline.specs.Turn.{turnOf}
 use Rattle.timeline.specs.declared.turn.Turn.{Turn}
 use Rattle.timeline.specs.declared.turn.Turn.the-variants.{At as Alongside, Between}
 use Rattle.timeline_order.proofs.Says.{Says, turn-says}
 use Rattle.first_departures.specs.Firsts.{firstDeparture}
-use Rattle.sailings.specs.Sailing.{offsetOf, localAt, InTime, sailingTrip}
+use Rattle.sailing_rows.specs.Rows.{offsetOf}
+use Rattle.sailings.specs.Sailing.{localAt, InTime, sailingTrip}
 use Rattle.leg_paths.specs.Leg.{legCount}
 use Rattle.estimate_facts.proofs.Asked.{trip-ready, first-in-time, first-in-reach}
 use Rattle.estimate_facts.proofs.Trips.{sailing-trip-is, trip-rows, rows-few}

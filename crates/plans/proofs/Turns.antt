@@ -12,7 +12,8 @@ use Rattle.paths.specs.declared.path.End.{End}
 use Rattle.timeline.specs.Turn.{timeAt}
 use Rattle.sailings.specs.Sailing.{sailingTrip}
 use Rattle.voyages.specs.Outcome.{approaching, towardsAt}
-use Rattle.plans.specs.Plan.{callEnd, approachFrom, approachTo, voyageFrom}
+use Rattle.call_places.specs.Places.{callEnd}
+use Rattle.plans.specs.Plan.{approachFrom, approachTo, voyageFrom}
 
 module _ (p : Pools) (t : Tables) (rows stops arrs deps : List ℕ) (clock : ℕ) where
   -- towards the first call, of the static stop before it

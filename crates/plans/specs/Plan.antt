@@ -6,38 +6,24 @@ use lib.ListN.{getD}
 use Rattle.ids.specs.Pool.{cellOf}
 use Rattle.ids.specs.declared.lookup.Found.{Found}
 use Rattle.ids.specs.declared.lookup.Found.the-variants.{At, Nothing}
-use Rattle.lengths.specs.declared.line.Point.{Point}
 use Rattle.tables.specs.Pools.{Pools}
 use Rattle.tables.specs.declared.lent.Tables.{Tables}
 use Rattle.trip_rows.specs.Rows.{stopPoint}
 use Rattle.courses.specs.declared.course.Course.{Course}
 use Rattle.calls.specs.Calls.{reportedOf, updateStop, callRows, callStops, callArrivals, callDepartures}
 use Rattle.best_rows.specs.Serving.{bestRow}
-use Rattle.sailings.specs.Sailing.{isCancelled, sailingTrip}
+use Rattle.sailing_rows.specs.Rows.{isCancelled}
+use Rattle.sailings.specs.Sailing.{sailingTrip}
 use Rattle.previous.specs.Before.{prevRow}
 use Rattle.scheduled_runs.specs.Run.{runOf}
 use Rattle.paths.specs.declared.path.End.{End}
+use Rattle.call_places.specs.Places.{stopOfCall, sequenceOfCall, pointOfCall, callEnd}
 use Rattle.leg_paths.specs.Leg.{legShape, legStops, legPath}
 use Rattle.voyages.specs.Voyage.{Leg, Approach, none, over, Pin, unplaced, pinned, Voyage}
 
 -- the tables that a trip's course is read from
 abbrev pub courseOf : Tables → Course
 courseOf t = record { trips = t .trips; times = t .times; stops = t .stops; shapes = t .shapes; points = t .points }
-
--- ---- the calls: their rows in the updates, and their stops
-module _ (words : List ℕ) (reals : List Float) (t : Tables) (rows stops : List ℕ) where
-  -- call k, counted from 0: its stop, its sequence, where it is, and itself as an end of a leg
-  abbrev pub stopOfCall : ℕ → ℕ
-  stopOfCall k = getD stops k 0
-
-  abbrev pub sequenceOfCall : ℕ → ℕ
-  sequenceOfCall k = cellOf words (t .updates .sequence) (getD rows k 0)
-
-  abbrev pub pointOfCall : ℕ → Point
-  pointOfCall k = stopPoint reals (t .stops) (stopOfCall k)
-
-  abbrev pub callEnd : ℕ → End
-  callEnd k = record { sequence = sequenceOfCall k; at = pointOfCall k }
 
 -- a row of the stop times as an end of a leg
 abbrev pub rowEnd : List ℕ → List Float → Tables → ℕ → End

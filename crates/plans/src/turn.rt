@@ -1,7 +1,8 @@
 // With a call: which call or leg the clock falls to, and the outcome there. Calls are lent as columns.
-use crate::call::at_call;
-use crate::call::call_end;
 use crate::leg::walk_leg;
+use call_places::at_call;
+use call_places::call_end;
+use call_places::departed;
 use fractions::approach_fraction;
 use fractions::incoming;
 use fractions::leg_fraction;
@@ -33,7 +34,8 @@ ghost use Rattle.sailings.specs.Sailing.{sailingTrip};
 ghost use Rattle.timeline.specs.Turn.{turnOf};
 ghost use Rattle.leg_paths.specs.Leg.{legCount};
 ghost use Rattle.voyages.specs.Outcome.{approachStatus, approaching, underWayAt, towardsAt, atTurn};
-ghost use Rattle.plans.specs.Plan.{courseOf, rowEnd, callEnd, approachFrom, voyageFrom};
+ghost use Rattle.call_places.specs.Places.{callEnd};
+ghost use Rattle.plans.specs.Plan.{courseOf, rowEnd, approachFrom, voyageFrom};
 
 // A row of the stop times as an end of a leg.
 fn row_end(words: &[u32], reals: &[f64], t: Tables, row: usize) -> End
@@ -151,7 +153,7 @@ fn towards(
     let calls = t.times;
     let places = t.stops;
     if moment(departures, 0) < clock {
-        return at_call(words, reals, t, rows, stops, 0, Status::InTransitTo);
+        return departed(words, reals, t, rows, stops);
     }
     let trip = sailing_trip(bytes, words, times, t);
     let to = call_end(words, reals, t, rows, stops, 0);

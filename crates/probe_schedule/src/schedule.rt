@@ -9,12 +9,12 @@ use days::ReadDate;
 use ids::IdColumn;
 use probe_pools::asked;
 use probe_pools::write;
-use service_days::Running;
 use tables::Journey;
 use tables::Service;
 use tables::StopTimes;
 use tables::Tables;
-use timetable::Matched;
+use timetable_answers::Matched;
+use timetable_answers::Running;
 
 // (date N)
 pub fn date(n: u32) {

@@ -1,2 +1,2 @@
--- `Sailing`: what the row of a sailing says, and the static trip that it stands for.
+-- `Sailing`: the static trip that a sailing stands for.
 pub mod Sailing

@@ -1,41 +1,18 @@
--- What the row of a sailing says, and the static trip that it stands for. Definitions only.
-use Prim.Native.Nat.{ℕ, _+_, _<_}
-use mathlib.Core.Bool.{Bool, true, false, cond}
-use mathlib.Core.List.{List, []}
+-- The static trip that a sailing stands for. Definitions only.
+use Prim.Native.Nat.{ℕ, _<_}
+use mathlib.Core.Bool.{Bool, true, false}
+use mathlib.Core.List.{List}
 use lib.IntN.{ℤ, pos, _+ℤ_}
-use lib.ListN.{getD}
-use Rattle.ids.specs.Pool.{idOf}
 use Rattle.ids.specs.declared.lookup.Found.{Found}
-use Rattle.key_parts.specs.Keys.{baseOf}
-use Rattle.tables.specs.declared.lent.Sailing.{Sailing}
 use Rattle.tables.specs.declared.lent.Tables.{Tables}
 use Rattle.matching.specs.Matching.{matchOf}
 use Rattle.moments.specs.Moments.{todayOf, yesterdayOf}
-use Rattle.timetable.specs.Timetable.{namedOf, planOf}
-use Rattle.update_rows.specs.Updates.{isSet, momentAt}
+use Rattle.lent_plans.specs.Plans.{planOf}
+use Rattle.timetable.specs.Timetable.{namedOf}
+use Rattle.sailing_rows.specs.Rows.{offsetOf, routeOf, baseKey}
 use Rattle.first_departures.specs.Firsts.{firstDeparture}
 use Rattle.first_departures.specs.declared.first.Moment.{Moment}
 use Rattle.first_departures.specs.declared.first.Moment.the-variants.{At, Nothing}
-
--- it is cancelled
-abbrev pub isCancelled : List ℕ → Sailing → Bool
-isCancelled bytes s = isSet bytes (s .cancelled) 0
-
--- the clock
-abbrev pub clockOf : List ℤ → Sailing → ℕ
-clockOf times s = momentAt times (s .now) 0
-
--- the offset of its local time
-abbrev pub offsetOf : List ℤ → Sailing → ℤ
-offsetOf times s = getD times (s .offset .at + 0) (pos 0)
-
--- the route, or an empty text where there is none
-unfoldable pub routeOf : List ℕ → List ℕ → Sailing → List ℕ
-routeOf bytes words s = cond (isSet bytes (s .routed) 0) (idOf bytes words (s .route) 0) []
-
--- the key before its last '@'
-abbrev pub baseKey : List ℕ → List ℕ → Sailing → List ℕ
-baseKey bytes words s = baseOf (idOf bytes words (s .key) 0)
 
 -- there is a first departure
 abbrev pub departs : Moment → Bool

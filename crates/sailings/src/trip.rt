@@ -1,23 +1,26 @@
 // The static trip that a sailing stands for.
-use crate::row::has_departure;
-use crate::row::local;
-use crate::row::offset;
-use crate::row::route;
+use crate::departure::has_departure;
+use crate::departure::local;
 use first_departures::Moment;
 use first_departures::first_departure;
 use ids::Found;
+use lent_plans::plan_of;
 use matching::Named;
 use matching::resolve;
 use moments::today;
 use moments::yesterday;
+use sailing_rows::base_key;
+use sailing_rows::offset;
+use sailing_rows::route;
 use tables::Tables;
-use trip_fits::Plan;
 ghost use mathlib.Core.Path.{_≡_};
 ghost use Rattle.matching.specs.Matching.{Ready};
 ghost use Rattle.moments.specs.Moments.{InReach};
-ghost use Rattle.timetable.specs.Timetable.{namedOf, planOf};
+ghost use Rattle.lent_plans.specs.Plans.{planOf};
+ghost use Rattle.timetable.specs.Timetable.{namedOf};
+ghost use Rattle.sailing_rows.specs.Rows.{offsetOf};
 ghost use Rattle.first_departures.specs.Firsts.{firstDeparture};
-ghost use Rattle.sailings.specs.Sailing.{InTime, offsetOf, localAt, tripFrom, sailingTrip};
+ghost use Rattle.sailings.specs.Sailing.{InTime, localAt, tripFrom, sailingTrip};
 
 // Of a sailing whose first departure is this.
 fn trip_from(bytes: &[u8], words: &[u32], times: &[i64], t: Tables, first: Moment) -> Found
@@ -26,32 +29,18 @@ fn trip_from(bytes: &[u8], words: &[u32], times: &[i64], t: Tables, first: Momen
     requires { ⌜ InReach (localAt first (offsetOf (now times) (t .sailing))) ⌝ }
     ensures { λ r. ⌜ r ≡ tripFrom (now (bytes .entry)) (now (words .entry)) (now (times .entry)) t first ⌝ }
 {
-    let trips = t.trips;
     let tripkeys = t.tripkeys;
-    let departures = t.times.departure;
     let aliases = t.aliases;
-    let lines = t.lines;
-    let calendars = t.calendars;
-    let ranges = t.ranges;
-    let exceptions = t.exceptions;
     let s = t.sailing;
-    let keys = s.key;
     let n = Named { tripkeys, aliases };
-    let p = Plan {
-        trips,
-        departures,
-        lines,
-        calendars,
-        ranges,
-        exceptions,
-    };
+    let p = plan_of(t);
     let at = local(first, offset(times, s));
     resolve(
         bytes,
         words,
         n,
         p,
-        key_parts::base(ids::id(bytes, words, keys, 0)),
+        base_key(bytes, words, s),
         route(bytes, words, s),
         has_departure(first),
         today(at),

@@ -1,10 +1,10 @@
 -- Whether the service of a row runs on its date, and what is answered of it in document 01's terms: the first refusal that applies, its number alone, or the value.
 use Prim.Native.Nat.{ℕ}
-use mathlib.Core.Bool.{Bool, true, false}
+use mathlib.Core.Bool.{Bool}
 use mathlib.Core.List.{List}
 use Rattle.ids.specs.Pool.{cellOf, idOf}
 use Rattle.days.specs.Days.{ordinal}
-use Rattle.measure.specs.Answer.{Answer, refused, given}
+use Rattle.measure.specs.Answer.{Answer}
 use Rattle.answers.specs.Answers.{unlessRefused}
 use Rattle.tables.specs.Pools.{Pools}
 use Rattle.tables.specs.Bounds.{chartBounds}
@@ -13,19 +13,11 @@ use Rattle.tables.specs.declared.lent.Service.{Service}
 use Rattle.tables.specs.declared.lent.Tables.{Tables}
 use Rattle.checks.specs.Operations.{serviceDayCauses}
 use Rattle.services.specs.Runs.{runsOf}
-use Rattle.service_days.specs.declared.running.Running.{Running}
-use Rattle.service_days.specs.declared.running.Running.the-variants.{Runs, Rests, Refused}
 
 -- the service of the row runs on its date
 unfoldable pub serviceRuns : List ℕ → List ℕ → Tables → Service → Bool
 serviceRuns bytes words t s =
     runsOf bytes words (t .calendars) (t .ranges) (t .exceptions) (idOf bytes words (s .feed) 0) (idOf bytes words (s .service) 0) (ordinal (cellOf words (s .date) 0))
-
--- the number and the value of each case
-abbrev pub runAnswer : Running → Answer Bool
-runAnswer Runs = given true
-runAnswer Rests = given false
-runAnswer (Refused n) = refused n
 
 -- whether a service runs on a date
 unfoldable pub runningOf : Pools → Tables → Service → Answer Bool

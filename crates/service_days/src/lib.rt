@@ -1,5 +1,4 @@
 // A published operation over the lent tables: whether a service runs on a date.
 mod running; // running.rt: whether a service runs on a date
 
-pub use running::Running;
 pub use running::service_runs;

@@ -4,18 +4,13 @@ use services::runs;
 use tables::Bounds;
 use tables::Service;
 use tables::Tables;
+use timetable_answers::Running;
+use timetable_answers::run_answer;
 ghost use mathlib.Core.Path.{_≡_};
 ghost use Rattle.tables.specs.Pools.{pools};
 ghost use Rattle.services.specs.Runs.{Calendared};
-ghost use Rattle.service_days.specs.Services.{serviceRuns, runAnswer, runningOf};
-
-// What is answered of a service and a date.
-pub enum Running {
-    Runs,
-    Rests,
-    // the number of the refusal
-    Refused(u32),
-}
+ghost use Rattle.timetable_answers.specs.Answers.{runAnswer};
+ghost use Rattle.service_days.specs.Services.{serviceRuns, runningOf};
 
 // Whether it runs, of tables that are not refused.
 fn is_running(bytes: &[u8], words: &[u32], t: Tables, s: Service) -> bool
@@ -57,8 +52,5 @@ pub fn service_runs(
     if refusal != 0 {
         return Running::Refused(refusal);
     }
-    if is_running(bytes, words, t, s) {
-        return Running::Runs;
-    }
-    Running::Rests
+    run_answer(is_running(bytes, words, t, s))
 }

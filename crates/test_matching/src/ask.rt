@@ -1,7 +1,7 @@
 // The answers.
 use libc::STDOUT_FILENO;
-use service_days::Running;
-use timetable::Matched;
+use timetable_answers::Matched;
+use timetable_answers::Running;
 
 // Writes the answer of the last row, where the table with the letter asks. Says how many rows the table keeps: a question is asked once.
 pub(crate) fn answered(

@@ -26,7 +26,8 @@ use Rattle.matching.specs.Matching.{Ready}
 use Rattle.moments.specs.Moments.{InReach}
 use Rattle.asked_journey.specs.Journeys.{timeOf, departsOf, localOf}
 use Rattle.service_days.proofs.Holds.{calendared}
-use Rattle.timetable.specs.Timetable.{namedOf, planOf}
+use Rattle.lent_plans.specs.Plans.{planOf}
+use Rattle.timetable.specs.Timetable.{namedOf}
 
 -- a moment of document 01 in the local time of an offset
 pub in-reach : (x y : ℤ) → T (leZ (pos 0) x) → T (leZ x (pos 4102444799)) → T (leZ (negsuc 50399) y) → T (leZ y (pos 50400)) → InReach (x +ℤ y)

@@ -6,18 +6,15 @@ use Rattle.ids.specs.Pool.{idOf}
 use Rattle.ids.specs.declared.lookup.Found.{Found}
 use Rattle.tables.specs.declared.lent.Journey.{Journey}
 use Rattle.tables.specs.declared.lent.Tables.{Tables}
-use Rattle.trip_fits.specs.declared.fit.Plan.{Plan}
+use Rattle.lent_plans.specs.Plans.{planOf}
 use Rattle.matching.specs.Matching.{matchOf}
 use Rattle.moments.specs.Moments.{todayOf, yesterdayOf}
 use Rattle.matching.specs.declared.whole.Named.{Named}
 use Rattle.asked_journey.specs.Journeys.{routeOf, departsOf, localOf}
 
--- the tables that a trip is found in by its id, and by its line and time
+-- the tables that a trip is found in by its id
 abbrev pub namedOf : Tables → Named
 namedOf t = record { tripkeys = t .tripkeys; aliases = t .aliases }
-
-abbrev pub planOf : Tables → Plan
-planOf t = record { trips = t .trips; departures = t .times .departure; lines = t .lines; calendars = t .calendars; ranges = t .ranges; exceptions = t .exceptions }
 
 -- the trip that the journey's row stands for
 unfoldable pub journeyTrip : List ℕ → List ℕ → List ℤ → Tables → Journey → Found

@@ -1,5 +1,4 @@
 // A published operation over the lent tables: the trip that a journey stands for.
 mod matched; // matched.rt: the trip that a journey stands for
 
-pub use matched::Matched;
 pub use matched::match_trip;

@@ -4,6 +4,7 @@ use asked_journey::local;
 use asked_journey::route;
 use checks::check_matching;
 use ids::Found;
+use lent_plans::plan_of;
 use matching::Named;
 use matching::resolve;
 use moments::today;
@@ -11,23 +12,17 @@ use moments::yesterday;
 use tables::Bounds;
 use tables::Journey;
 use tables::Tables;
-use trip_fits::Plan;
+use timetable_answers::Matched;
+use timetable_answers::trip_answer;
 ghost use mathlib.Core.Path.{_≡_};
 ghost use Rattle.tables.specs.Pools.{pools};
 ghost use Rattle.matching.specs.Matching.{Ready};
 ghost use Rattle.moments.specs.Moments.{InReach};
 ghost use Rattle.asked_journey.specs.Journeys.{localOf};
-ghost use Rattle.timetable.specs.Timetable.{namedOf, planOf, journeyTrip};
-ghost use Rattle.timetable.specs.Answers.{matchAnswer, matchedOf};
-
-// What matching answers.
-pub enum Matched {
-    // the trip's row
-    Trip(usize),
-    Nothing,
-    // the number of the refusal
-    Refused(u32),
-}
+ghost use Rattle.lent_plans.specs.Plans.{planOf};
+ghost use Rattle.timetable_answers.specs.Answers.{matchAnswer};
+ghost use Rattle.timetable.specs.Timetable.{namedOf, journeyTrip};
+ghost use Rattle.timetable.specs.Answers.{matchedOf};
 
 // The trip, of tables that are not refused.
 fn trip_of(bytes: &[u8], words: &[u32], times: &[i64], t: Tables, j: Journey) -> Found
@@ -35,23 +30,10 @@ fn trip_of(bytes: &[u8], words: &[u32], times: &[i64], t: Tables, j: Journey) ->
     requires { ⌜ InReach (localOf (now bytes) (now times) j) ⌝ }
     ensures { λ r. ⌜ r ≡ journeyTrip (now (bytes .entry)) (now (words .entry)) (now (times .entry)) t j ⌝ }
 {
-    let trips = t.trips;
     let tripkeys = t.tripkeys;
-    let departures = t.times.departure;
     let aliases = t.aliases;
-    let lines = t.lines;
-    let calendars = t.calendars;
-    let ranges = t.ranges;
-    let exceptions = t.exceptions;
     let n = Named { tripkeys, aliases };
-    let p = Plan {
-        trips,
-        departures,
-        lines,
-        calendars,
-        ranges,
-        exceptions,
-    };
+    let p = plan_of(t);
     let key = j.key;
     let at = local(bytes, times, j);
     resolve(
@@ -83,8 +65,5 @@ pub fn match_trip(
     if refusal != 0 {
         return Matched::Refused(refusal);
     }
-    match trip_of(bytes, words, times, t, j) {
-        Found::At(trip) => Matched::Trip(trip),
-        Found::Nothing => Matched::Nothing,
-    }
+    trip_answer(trip_of(bytes, words, times, t, j))
 }

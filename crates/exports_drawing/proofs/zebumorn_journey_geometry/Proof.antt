@@ -8,8 +8,8 @@ use Rattle.exports_drawing.proofs.zebumorn_journey_geometry.Tie as tie
 journey-geometry-requires : tie.Need-journey-geometry-requires
 journey-geometry-requires c κs = tt
 
-told-requires : tie.Need-told-requires
-told-requires c κs = tt
+told-drawing-requires : tie.Need-told-drawing-requires
+told-drawing-requires c κs = tt
 
 same-length : tie.Need-same-length
 same-length c = search needs
@@ -19,9 +19,9 @@ same-length-2 c = search needs
 
 returns : tie.Need-returns
 returns c =
-    let t = c .told .ensures in
+    let t = c .told-drawing .ensures in
     let d = c .before .before .before .before .before .before .journey-geometry .ensures in
     (t .0 ∙ ap numberOf (d .0), (t .1 ∙ ap (valueOr _) (d .0), (d .1 .0, d .1 .1)))
 
 pub zebumorn-journey-geometry-spec : {M : Type 1} → statement M
-zebumorn-journey-geometry-spec = tie.close (tie.spec journey-geometry-requires told-requires same-length same-length-2 returns)
+zebumorn-journey-geometry-spec = tie.close (tie.spec journey-geometry-requires told-drawing-requires same-length same-length-2 returns)

@@ -7,11 +7,11 @@ use Rattle.exports_timetable.proofs.dates.zebumorn_read_date.Tie as tie
 read-date-requires : tie.Need-read-date-requires
 read-date-requires c κs = tt
 
-number-requires : tie.Need-number-requires
-number-requires c κs = tt
+told-date-requires : tie.Need-told-date-requires
+told-date-requires c κs = tt
 
 returns : tie.Need-returns
-returns c = c .number .ensures ∙ ap refusalOf (c .before .read-date .ensures)
+returns c = c .told-date .ensures ∙ ap refusalOf (c .before .read-date .ensures)
 
 pub zebumorn-read-date-spec : {M : Type 1} → statement M
-zebumorn-read-date-spec = tie.close (tie.spec read-date-requires number-requires returns)
+zebumorn-read-date-spec = tie.close (tie.spec read-date-requires told-date-requires returns)

@@ -1,7 +1,7 @@
 -- `exports_timetable::trips::zebumorn_match_trip` meets its contract: matching's answer, told.
 use mathlib.Core.Path.{ap, _∙_}
 use Rattle.measure.specs.Answer.{numberOf}
-use Rattle.exports_timetable.specs.Told.{rowOr}
+use Rattle.refusal_numbers.specs.Told.{rowOr}
 use Rattle.exports_timetable.proofs.trips.zebumorn_match_trip.Statement.{statement}
 use Rattle.exports_timetable.proofs.trips.zebumorn_match_trip.Tie as tie
 

@@ -1,7 +1,7 @@
 -- `exports_timetable::trips::zebumorn_service_runs` meets its contract: the service's answer, told.
 use mathlib.Core.Path.{ap, _∙_}
 use Rattle.measure.specs.Answer.{numberOf}
-use Rattle.exports_timetable.specs.Told.{runsOr}
+use Rattle.refusal_numbers.specs.Told.{runsOr}
 use Rattle.exports_timetable.proofs.trips.zebumorn_service_runs.Statement.{statement}
 use Rattle.exports_timetable.proofs.trips.zebumorn_service_runs.Tie as tie
 

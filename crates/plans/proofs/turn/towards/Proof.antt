@@ -13,12 +13,12 @@ use Rattle.plans.proofs.turn.towards.Tie as tie
 moment-requires : tie.Need-moment-requires
 moment-requires c κs = search needs
 
-at-call-requires : tie.Need-at-call-requires
-at-call-requires c κs = search needs
+departed-requires : tie.Need-departed-requires
+departed-requires c κs = search needs
 
 returns : tie.Need-returns
 unfolding towardsAt voyageFrom
-returns c = rw (lt-ltb _ _ (rw (c .before .before .moment .ensures) at (c .before .if1 .taken))) (c .at-call .ensures)
+returns c = rw (lt-ltb _ _ (rw (c .before .before .moment .ensures) at (c .before .if1 .taken))) (c .departed .ensures)
 
 sailing-trip-requires : tie.Need-sailing-trip-requires
 sailing-trip-requires c κs =
@@ -54,7 +54,7 @@ towards-spec =
     tie.close
     (tie.spec
     moment-requires
-    at-call-requires
+    departed-requires
     returns
     sailing-trip-requires
     call-end-requires

@@ -14,20 +14,20 @@ use Rattle.sailings.proofs.trip.trip_from.Tie as tie
 local-read : (m : Moment) (x y z : ℤ) → SFits w64 x → SFits w64 y → x ≡ z → y ≡ localAt m (toZ w64 (ofZ w64 x)) → toZ w64 (ofZ w64 y) ≡ localAt m z
 local-read m x y z f g e h = toZ-ofZ g ∙ h ∙ ap (localAt m) (toZ-ofZ f ∙ e)
 
+plan-of-requires : tie.Need-plan-of-requires
+plan-of-requires c κs = tt
+
 offset-requires : tie.Need-offset-requires
 offset-requires c κs = tt
 
 local-requires : tie.Need-local-requires
 local-requires c κs =
-    let h = c .before .before .before .before .before .before .before .before .before .before .before .before .before .pre .1 in
+    let h = c .before .before .before .before .before .before .before .pre .1 in
     let e = toZ-ofZ (record { sfits = c .offset .ok }) ∙ c .offset .ensures in
-    (h .0, subst (λ (z : ℤ). InReach (localAt (c .before .before .before .before .before .before .before .before .before .before .before .before .before .args .first) z)) (sym e) (h .1))
+    (h .0, subst (λ (z : ℤ). InReach (localAt (c .before .before .before .before .before .before .before .args .first) z)) (sym e) (h .1))
 
-id-requires : tie.Need-id-requires
-id-requires c κs = tt
-
-base-requires : tie.Need-base-requires
-base-requires c κs = tt
+base-key-requires : tie.Need-base-key-requires
+base-key-requires c κs = tt
 
 route-requires : tie.Need-route-requires
 route-requires c κs = tt
@@ -37,22 +37,22 @@ has-departure-requires c κs = tt
 
 today-requires : tie.Need-today-requires
 today-requires c κs =
-    let e = local-read (c .before .before .before .before .before .before .before .before .before .before .before .before .before .before .before .before .before .before .args .first) (c .before .before .before .before .before .offset .result) (c .before .before .before .before .local .result) _ (record { sfits = c .before .before .before .before .before .offset .ok }) (record { sfits = c .before .before .before .before .local .ok }) (c .before .before .before .before .before .offset .ensures) (c .before .before .before .before .local .ensures) in
-    subst InReach (sym e) (c .before .before .before .before .before .before .before .before .before .before .before .before .before .before .before .before .before .before .pre .1 .1)
+    let e = local-read (c .before .before .before .before .before .before .before .before .before .before .before .args .first) (c .before .before .before .before .offset .result) (c .before .before .before .local .result) _ (record { sfits = c .before .before .before .before .offset .ok }) (record { sfits = c .before .before .before .local .ok }) (c .before .before .before .before .offset .ensures) (c .before .before .before .local .ensures) in
+    subst InReach (sym e) (c .before .before .before .before .before .before .before .before .before .before .before .pre .1 .1)
 
 yesterday-requires : tie.Need-yesterday-requires
 yesterday-requires c κs =
-    let e = local-read (c .before .before .before .before .before .before .before .before .before .before .before .before .before .before .before .before .before .before .before .args .first) (c .before .before .before .before .before .before .offset .result) (c .before .before .before .before .before .local .result) _ (record { sfits = c .before .before .before .before .before .before .offset .ok }) (record { sfits = c .before .before .before .before .before .local .ok }) (c .before .before .before .before .before .before .offset .ensures) (c .before .before .before .before .before .local .ensures) in
-    subst InReach (sym e) (c .before .before .before .before .before .before .before .before .before .before .before .before .before .before .before .before .before .before .before .pre .1 .1)
+    let e = local-read (c .before .before .before .before .before .before .before .before .before .before .before .before .args .first) (c .before .before .before .before .before .offset .result) (c .before .before .before .before .local .result) _ (record { sfits = c .before .before .before .before .before .offset .ok }) (record { sfits = c .before .before .before .before .local .ok }) (c .before .before .before .before .before .offset .ensures) (c .before .before .before .before .local .ensures) in
+    subst InReach (sym e) (c .before .before .before .before .before .before .before .before .before .before .before .before .pre .1 .1)
 
 resolve-requires : tie.Need-resolve-requires
-resolve-requires c κs = c .before .before .before .before .before .before .before .before .before .before .before .before .before .before .before .before .before .before .before .before .pre .0
+resolve-requires c κs = rw (c .before .before .before .before .before .before .before .plan-of .ensures) (c .before .before .before .before .before .before .before .before .before .before .before .before .before .pre .0)
 
 returns : tie.Need-returns
 unfolding tripFrom
 returns c =
-    let e = local-read (c .before .before .before .before .before .before .before .before .before .before .before .before .before .before .before .before .before .before .before .before .before .args .first) (c .before .before .before .before .before .before .before .before .offset .result) (c .before .before .before .before .before .before .before .local .result) _ (record { sfits = c .before .before .before .before .before .before .before .before .offset .ok }) (record { sfits = c .before .before .before .before .before .before .before .local .ok }) (c .before .before .before .before .before .before .before .before .offset .ensures) (c .before .before .before .before .before .before .before .local .ensures) in
-    rw (c .resolve .ensures, c .before .yesterday .ensures, c .before .before .today .ensures, e, c .before .before .before .has-departure .ensures, c .before .before .before .before .route .ensures, c .before .before .before .before .before .base .ensures, c .before .before .before .before .before .before .id .ensures)
+    let e = local-read (c .before .before .before .before .before .before .before .before .before .before .before .before .before .before .args .first) (c .before .before .before .before .before .before .before .offset .result) (c .before .before .before .before .before .before .local .result) _ (record { sfits = c .before .before .before .before .before .before .before .offset .ok }) (record { sfits = c .before .before .before .before .before .before .local .ok }) (c .before .before .before .before .before .before .before .offset .ensures) (c .before .before .before .before .before .before .local .ensures) in
+    rw (c .resolve .ensures, c .before .yesterday .ensures, c .before .before .today .ensures, e, c .before .before .before .has-departure .ensures, c .before .before .before .before .route .ensures, c .before .before .before .before .before .base-key .ensures, c .before .before .before .before .before .before .before .before .plan-of .ensures)
 
 pub trip-from-spec : {M : Type 1} → statement M
-trip-from-spec = tie.close (tie.spec offset-requires local-requires id-requires base-requires route-requires has-departure-requires today-requires yesterday-requires resolve-requires returns)
+trip-from-spec = tie.close (tie.spec plan-of-requires offset-requires local-requires base-key-requires route-requires has-departure-requires today-requires yesterday-requires resolve-requires returns)

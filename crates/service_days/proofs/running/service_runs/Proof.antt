@@ -1,7 +1,6 @@
 use borrow.Author.Needs.{needs}
-use mathlib.Core.Path.{_∙_, sym, ap}
+use mathlib.Core.Path.{_∙_, sym}
 use Rattle.tables.specs.Pools.{pools}
-use Rattle.measure.specs.Answer.{given}
 use Rattle.service_days.specs.Services.{runningOf}
 use Rattle.service_days.proofs.Holds.{service-ready}
 use Rattle.answers.proofs.Told.{told, denied}
@@ -26,13 +25,14 @@ is-running-requires c κs =
     let a = c .before .before .before .before .before .before .before .args in
     service-ready (pools (a .bytes .now) (a .words .now) (a .times .now) (a .reals .now) (a .dists .now)) (a .t) (a .s) (rw (← c .before .before .chart .ensures) (sym (c .before .check-service .ensures) ∙ c .if1 .left))
 
+run-answer-requires : tie.Need-run-answer-requires
+run-answer-requires c κs = tt
+
 returns-2 : tie.Need-returns-2
 unfolding runningOf
-returns-2 c = rw (← c .before .before .before .before .chart .ensures, ← c .before .before .before .check-service .ensures, ← c .before .is-running .ensures, c .if2 .taken) (told _ _ (c .before .before .if1 .left))
-
-returns-3 : tie.Need-returns-3
-unfolding runningOf
-returns-3 c = rw (← c .before .before .before .before .chart .ensures, ← c .before .before .before .check-service .ensures, ← c .before .is-running .ensures, c .if2 .left) (told _ _ (c .before .before .if1 .left))
+returns-2 c =
+    let l = c .before .before in
+    rw (← l .before .before .chart .ensures, ← l .before .check-service .ensures, ← c .before .is-running .ensures) (c .run-answer .ensures ∙ told _ _ (l .if1 .left))
 
 pub service-runs-spec : {M : Type 1} → statement M
-service-runs-spec = tie.close (tie.spec chart-requires check-service-requires returns is-running-requires returns-2 returns-3)
+service-runs-spec = tie.close (tie.spec chart-requires check-service-requires returns is-running-requires run-answer-requires returns-2)

@@ -1,4 +1,3 @@
-use borrow.Author.Needs.{needs}
 use mathlib.Core.Path.{_∙_, sym}
 use Rattle.tables.specs.Pools.{pools}
 use Rattle.timetable.specs.Answers.{matchedOf}
@@ -27,19 +26,14 @@ trip-of-requires c κs =
     let e = rw (c .before .before .chart .ensures) at (sym (c .before .check-matching .ensures) ∙ c .if1 .left) in
     (ready p (a .t) (a .j) e, local-in-reach p (a .t) (a .j) e)
 
-enum-known-trip : tie.Need-enum-known-trip
-enum-known-trip c = search needs
+trip-answer-requires : tie.Need-trip-answer-requires
+trip-answer-requires c κs = tt
 
 returns-2 : tie.Need-returns-2
 unfolding matchedOf
-returns-2 c = rw (← c .before .before .before .before .before .before .chart .ensures, ← c .before .before .before .before .before .check-matching .ensures, ← c .before .before .before .trip-of .ensures, c .before .trip .given .1) (told _ _ (c .before .before .before .before .if1 .left))
-
-enum-told : tie.Need-enum-told
-enum-told c = search needs
-
-returns-3 : tie.Need-returns-3
-unfolding matchedOf
-returns-3 c = rw (← c .before .before .before .before .before .chart .ensures, ← c .before .before .before .before .check-matching .ensures, ← c .before .before .trip-of .ensures, c .enum-told .given .1) (told _ _ (c .before .before .before .if1 .left))
+returns-2 c =
+    let l = c .before .before in
+    rw (← l .before .before .chart .ensures, ← l .before .check-matching .ensures, ← c .before .trip-of .ensures) (c .trip-answer .ensures ∙ told _ _ (l .if1 .left))
 
 pub match-trip-spec : {M : Type 1} → statement M
-match-trip-spec = tie.close (tie.spec chart-requires check-matching-requires returns trip-of-requires enum-known-trip enum-told returns-2 returns-3)
+match-trip-spec = tie.close (tie.spec chart-requires check-matching-requires returns trip-of-requires trip-answer-requires returns-2)

@@ -1,0 +1,2 @@
+-- `Places`: where the calls of a sailing are.
+pub mod Places

@@ -1,2 +1,0 @@
--- `Told`: what the C names make of an answer.
-pub mod Told

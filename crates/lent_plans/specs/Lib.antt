@@ -1,0 +1,2 @@
+-- `Plans`: the tables that a trip is found in by its line and its time.
+pub mod Plans

@@ -1,0 +1,2 @@
+-- `Told`: what is written of an answer.
+pub mod Told

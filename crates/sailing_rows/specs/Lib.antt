@@ -1,0 +1,2 @@
+-- `Rows`: what the row of a sailing says.
+pub mod Rows
