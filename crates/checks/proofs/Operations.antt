@@ -1,4 +1,4 @@
--- What each operation may take for granted where nothing is refused: no cause of any table is there. `Parts` of `schedule_rules`, `shape_rules`, `lookup_rules`, `asked_rules` says what that gives of each.
+-- What each operation may take for granted where nothing is refused: no cause of any table is there. `Parts` of each crate of rules says what that gives.
 use mathlib.Core.Path.{_≡_}
 use lib.Dec.{T}
 use Rattle.tables.specs.Pools.{Pools}
@@ -8,7 +8,8 @@ use Rattle.tables.specs.declared.lent.Journey.{Journey}
 use Rattle.tables.specs.declared.lent.Service.{Service}
 use Rattle.tables.specs.declared.lent.Tables.{Tables}
 use Rattle.refusals.proofs.Passed.{numbered, Clear, clear-at, not-refused}
-use Rattle.schedule_rules.specs.Parts.{callTimesCauses, callsCauses, tripsCauses}
+use Rattle.trip_rules.specs.Parts.{tripsCauses}
+use Rattle.schedule_rules.specs.Parts.{callTimesCauses, callsCauses}
 use Rattle.calendar_rules.specs.Parts.{calendarsCauses, exceptionsCauses, rangesCauses}
 use Rattle.lookup_rules.specs.Parts.{aliasesCauses, idRowsCauses, linesCauses}
 use Rattle.update_rules.specs.Parts.{arrivalsCauses, sailingCauses, updateDeparturesCauses, updatesCauses}

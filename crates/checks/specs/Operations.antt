@@ -6,7 +6,8 @@ use Rattle.tables.specs.declared.bounds.Bounds.{Bounds}
 use Rattle.tables.specs.declared.lent.Journey.{Journey}
 use Rattle.tables.specs.declared.lent.Service.{Service}
 use Rattle.tables.specs.declared.lent.Tables.{Tables}
-use Rattle.schedule_rules.specs.Parts.{callTimesCauses, callsCauses, tripsCauses}
+use Rattle.trip_rules.specs.Parts.{tripsCauses}
+use Rattle.schedule_rules.specs.Parts.{callTimesCauses, callsCauses}
 use Rattle.calendar_rules.specs.Parts.{calendarsCauses, exceptionsCauses, rangesCauses}
 use Rattle.lookup_rules.specs.Parts.{aliasesCauses, idRowsCauses, linesCauses}
 use Rattle.update_rules.specs.Parts.{arrivalsCauses, sailingCauses, updateDeparturesCauses, updatesCauses}

@@ -98,7 +98,7 @@ pub fn check_matching(
     let trips = t.trips;
     let calls = t.times;
     let rows = calls.stop.n;
-    let best1 = schedule_rules::trips(bytes, words, times, reals, dists, 0, b, trips, rows);
+    let best1 = trip_rules::trips(bytes, words, times, reals, dists, 0, b, trips, rows);
     let best2 = schedule_rules::calls(bytes, words, times, reals, dists, best1, b, calls);
     let best3 = schedule_rules::call_times(bytes, words, times, reals, dists, best2, calls);
     let best4 = in_trip_lookup(bytes, words, times, reals, dists, best3, b, t);

@@ -17,8 +17,10 @@ use Rattle.refusals.specs.Refuse.{always, whereSet, refusalOf}
 use Rattle.tables.specs.declared.lent.Tables.{Tables}
 use Rattle.refusals.proofs.Facts.{all-count, counted}
 use Rattle.refusals.proofs.Passed.{clear-drop}
-use Rattle.schedule_rules.specs.Parts.{tripsCauses, callsCauses}
-use Rattle.schedule_rules.proofs.Parts.{trip-rows-within, trip-shapes-below, call-stops-below, call-arrivals-below, call-departures-below}
+use Rattle.trip_rules.specs.Parts.{tripsCauses}
+use Rattle.trip_rules.proofs.Parts.{trip-rows-within}
+use Rattle.schedule_rules.specs.Parts.{callsCauses}
+use Rattle.schedule_rules.proofs.Parts.{trip-shapes-below, call-stops-below, call-arrivals-below, call-departures-below}
 use Rattle.shape_rules.specs.Parts.{shapesCauses}
 use Rattle.shape_rules.proofs.Parts.{shape-points-below}
 use Rattle.lookup_rules.specs.Parts.{linesCauses}

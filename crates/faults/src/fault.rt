@@ -1,6 +1,10 @@
 // A fault that a column or a count may have, and whether it is there.
 use crate::column::no_date;
 use crate::column::not_a_number;
+use column_faults::ids_ill_sized;
+use column_faults::ill_sized;
+use column_faults::out_of_time;
+use column_faults::too_large;
 use column_order::Key;
 use ids::IdColumn;
 use ids::Span;
@@ -12,9 +16,8 @@ use tables::reals_of;
 use tables::times_of;
 use tables::words_of;
 ghost use mathlib.Core.Path.{_≡_};
-ghost use mathlib.Core.Bool.{_||_};
 ghost use Rattle.tables.specs.Pools.{pools, poolLength};
-ghost use Rattle.faults.specs.Fault.{illSized, failsOf};
+ghost use Rattle.faults.specs.Fault.{failsOf};
 
 // A fault that a column or a count may have.
 pub enum Test {
@@ -46,27 +49,6 @@ pub enum Test {
     NoDate(Span),
     // a float is NaN
     NotANumber(Span),
-}
-
-// Whether a column is not n rows of a pool of len.
-fn ill_sized(len: usize, span: Span, n: u32) -> bool
-    ensures { λ r. ⌜ r ≡ illSized len span n ⌝ }
-{
-    if len < span.at as usize + span.n as usize {
-        return true;
-    }
-    span.n != n
-}
-
-fn ids_ill_sized(len: usize, ids: IdColumn, n: u32) -> bool
-    ensures { λ r. ⌜ r ≡ (illSized len (ids .starts) n || illSized len (ids .lens) n) ⌝ }
-{
-    let starts = ids.starts;
-    let lens = ids.lens;
-    if ill_sized(len, starts, n) {
-        return true;
-    }
-    ill_sized(len, lens, n)
 }
 
 // The length of a pool.
@@ -108,10 +90,7 @@ pub fn fails(
         ),
         Test::Ids(ids, n) => ids_ill_sized(words.len(), ids, n),
         Test::Over(n, most) => most < n,
-        Test::Reaches(s, m, n) => {
-            let flags = m.flags;
-            columns::reaches(words_of(words, s), bytes_of(bytes, flags), m.all, n)
-        }
+        Test::Reaches(s, m, n) => too_large(bytes, words, s, m, n),
         Test::OffGlobe(lat, lon, m) => {
             let flags = m.flags;
             column_floats::off_globe(
@@ -143,16 +122,7 @@ pub fn fails(
                 n as u64,
             )
         }
-        Test::Moment(s, m) => {
-            let flags = m.flags;
-            columns::outside(
-                times_of(times, s),
-                bytes_of(bytes, flags),
-                m.all,
-                0,
-                4102444799,
-            )
-        }
+        Test::Moment(s, m) => out_of_time(bytes, times, s, m),
         Test::Offset(s) => columns::outside(times_of(times, s), &bytes[..0], true, -50400, 50400),
         Test::BadIds(ids, m, empty) => {
             let starts = ids.starts;

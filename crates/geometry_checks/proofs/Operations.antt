@@ -1,4 +1,4 @@
--- What each operation of geometry may take for granted where nothing is refused: no cause of any table is there. `Parts` of `schedule_rules`, `shape_rules`, `lookup_rules`, `asked_rules` says what that gives of each.
+-- What each operation of geometry may take for granted where nothing is refused: no cause of any table is there. `Parts` of each crate of rules says what that gives.
 use mathlib.Core.Path.{_≡_}
 use lib.Dec.{T}
 use Rattle.tables.specs.Pools.{Pools}
@@ -9,7 +9,9 @@ use Rattle.tables.specs.declared.lent.LegAsked.{LegAsked}
 use Rattle.tables.specs.declared.lent.Samples.{Samples}
 use Rattle.tables.specs.declared.lent.Tables.{Tables}
 use Rattle.refusals.proofs.Passed.{numbered, Clear, clear-at, not-refused}
-use Rattle.schedule_rules.specs.Parts.{callsCauses, placingCauses, stopsCauses, tripsCauses}
+use Rattle.stop_rules.specs.Parts.{stopsCauses}
+use Rattle.trip_rules.specs.Parts.{tripsCauses}
+use Rattle.schedule_rules.specs.Parts.{callsCauses, placingCauses}
 use Rattle.shape_rules.specs.Parts.{lineCauses, measuresCauses, pointsCauses, pointsWithinCauses, shapesCauses}
 use Rattle.lookup_rules.specs.Parts.{idRowsCauses}
 use Rattle.asked_rules.specs.Parts.{legAskedCauses}

@@ -7,7 +7,9 @@ use Rattle.tables.specs.declared.lent.Along.{Along}
 use Rattle.tables.specs.declared.lent.LegAsked.{LegAsked}
 use Rattle.tables.specs.declared.lent.Samples.{Samples}
 use Rattle.tables.specs.declared.lent.Tables.{Tables}
-use Rattle.schedule_rules.specs.Parts.{callsCauses, placingCauses, stopsCauses, tripsCauses}
+use Rattle.stop_rules.specs.Parts.{stopsCauses}
+use Rattle.trip_rules.specs.Parts.{tripsCauses}
+use Rattle.schedule_rules.specs.Parts.{callsCauses, placingCauses}
 use Rattle.shape_rules.specs.Parts.{lineCauses, measuresCauses, pointsCauses, pointsWithinCauses, shapesCauses}
 use Rattle.lookup_rules.specs.Parts.{idRowsCauses}
 use Rattle.asked_rules.specs.Parts.{legAskedCauses}

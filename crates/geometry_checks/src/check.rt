@@ -26,8 +26,8 @@ pub fn check_geometry(
     let calls = t.times;
     let shapes = t.shapes;
     let points = t.points;
-    let best1 = schedule_rules::stops(bytes, words, times, reals, dists, 0, b, stops);
-    let best2 = schedule_rules::trips(
+    let best1 = stop_rules::stops(bytes, words, times, reals, dists, 0, b, stops);
+    let best2 = trip_rules::trips(
         bytes,
         words,
         times,

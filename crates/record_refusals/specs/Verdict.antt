@@ -5,7 +5,7 @@ use mathlib.Core.List.{List, [], _∷_}
 use lib.Dec.{eqb, ltb}
 use Rattle.refusals.specs.Refuse.{Cause, joined}
 use Rattle.tables.specs.declared.bounds.Bounds.{Bounds}
-use Rattle.schedule_rules.specs.Parts.{stopsCauses}
+use Rattle.stop_rules.specs.Parts.{stopsCauses}
 use Rattle.shape_rules.specs.Parts.{lineCauses}
 use Rattle.record_faults.specs.declared.Faults.{Faults}
 use Rattle.record_refusals.specs.declared.Lent.{Lent}

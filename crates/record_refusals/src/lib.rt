@@ -27,7 +27,7 @@ pub fn check_lent(bytes: &[u8], words: &[u32], reals: &[f64], l: Lent) -> u32
     let b = Bounds::chart();
     let times: [i64; 1] = [0; 1];
     let dists: [f32; 1] = [0.0; 1];
-    let best1 = schedule_rules::stops(bytes, words, &times[..0], reals, &dists[..0], 0, b, stops);
+    let best1 = stop_rules::stops(bytes, words, &times[..0], reals, &dists[..0], 0, b, stops);
     shape_rules::points_within(
         bytes,
         words,

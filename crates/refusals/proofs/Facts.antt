@@ -28,7 +28,8 @@ use Rattle.column_order.specs.declared.order.Key.{Key}
 use Rattle.column_order.specs.declared.order.Key.the-variants.{Word, Id}
 use Rattle.column_order.proofs.Sorted.{rows-ascend, ids-ascend, numbers-ascend}
 use Rattle.tables.specs.Pools.{Pools, partOf, flagsOf, poolLength}
-use Rattle.faults.specs.Fault.{failsOf, illSized, noDateAt, nanAt}
+use Rattle.column_faults.specs.Faulty.{illSized}
+use Rattle.faults.specs.Fault.{failsOf, noDateAt, nanAt}
 use Rattle.refusals.specs.Refuse.{Cause, idCauses}
 use Rattle.tables.specs.declared.mark.Mark.{Mark}
 use Rattle.tables.specs.declared.mark.Pool.the-variants.{Words, Times, Reals, Dists}

@@ -1,2 +1,2 @@
--- `Parts`: what is so of each part of the schedule where no cause of it is there.
+-- `Parts`: what is so of each part of the stop times where no cause of it is there.
 pub mod Parts

@@ -1,2 +1,2 @@
--- `Parts`: the causes of each part of the schedule.
+-- `Parts`: the causes of each part of the stop times.
 pub mod Parts

@@ -1,8 +1,6 @@
-// The rules of the schedule: of stops, trips and stop times.
-mod rules; // rules.rt: the rules of each table
+// The rules of the stop times, and of where trips and stop times are placed.
+mod rules; // rules.rt: the rules of each part
 
 pub use rules::call_times;
 pub use rules::calls;
 pub use rules::placing;
-pub use rules::stops;
-pub use rules::trips;

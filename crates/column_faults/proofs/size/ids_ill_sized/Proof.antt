@@ -1,7 +1,7 @@
 use borrow.Author.Needs.{needs}
 use mathlib.Core.Path.{sym, _∙_}
-use Rattle.faults.proofs.fault.ids_ill_sized.Statement.{statement}
-use Rattle.faults.proofs.fault.ids_ill_sized.Tie as tie
+use Rattle.column_faults.proofs.size.ids_ill_sized.Statement.{statement}
+use Rattle.column_faults.proofs.size.ids_ill_sized.Tie as tie
 
 ill-sized-requires : tie.Need-ill-sized-requires
 ill-sized-requires c κs = search needs

@@ -1,7 +1,7 @@
 use borrow.Author.Needs.{needs}
 use borrow.Author.Tests.{lt-ltb, le-ltb}
-use Rattle.faults.proofs.fault.ill_sized.Statement.{statement}
-use Rattle.faults.proofs.fault.ill_sized.Tie as tie
+use Rattle.column_faults.proofs.size.ill_sized.Statement.{statement}
+use Rattle.column_faults.proofs.size.ill_sized.Tie as tie
 
 cast-if1 : tie.Need-cast-if1
 cast-if1 c = search needs

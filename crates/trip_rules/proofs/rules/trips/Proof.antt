@@ -1,6 +1,6 @@
 use Rattle.refusals.proofs.Folds.{first, several}
-use Rattle.schedule_rules.proofs.rules.stops.Statement.{statement}
-use Rattle.schedule_rules.proofs.rules.stops.Tie as tie
+use Rattle.trip_rules.proofs.rules.trips.Statement.{statement}
+use Rattle.trip_rules.proofs.rules.trips.Tie as tie
 
 tested-requires : tie.Need-tested-requires
 tested-requires c κs = tt
@@ -17,15 +17,23 @@ tested-requires-4 c κs = tt
 tested-requires-5 : tie.Need-tested-requires-5
 tested-requires-5 c κs = tt
 
+tested-requires-6 : tie.Need-tested-requires-6
+tested-requires-6 c κs = tt
+
+tested-requires-7 : tie.Need-tested-requires-7
+tested-requires-7 c κs = tt
+
 all-named-requires : tie.Need-all-named-requires
 all-named-requires c κs = tt
 
-named-requires : tie.Need-named-requires
-named-requires c κs = tt
+all-named-requires-2 : tie.Need-all-named-requires-2
+all-named-requires-2 c κs = tt
 
 returns : tie.Need-returns
 returns c =
-    let c6 = c .before in
+    let c8 = c .before in
+    let c7 = c8 .before in
+    let c6 = c7 .before in
     let c5 = c6 .before in
     let c4 = c5 .before in
     let c3 = c4 .before in
@@ -36,8 +44,10 @@ returns c =
     (first _ _ _ _ _ _ (c3 .tested3 .ensures)
     (first _ _ _ _ _ _ (c4 .tested4 .ensures)
     (first _ _ _ _ _ _ (c5 .tested5 .ensures)
-    (several _ _ _ _ _ _ (c6 .all-named .ensures)
-    (c .named .ensures))))))
+    (first _ _ _ _ _ _ (c6 .tested6 .ensures)
+    (first _ _ _ _ _ _ (c7 .tested7 .ensures)
+    (several _ _ _ _ _ _ (c8 .all-named .ensures)
+    (c .all-named2 .ensures))))))))
 
-pub stops-spec : {M : Type 1} → statement M
-stops-spec = tie.close (tie.spec tested-requires tested-requires-2 tested-requires-3 tested-requires-4 tested-requires-5 all-named-requires named-requires returns)
+pub trips-spec : {M : Type 1} → statement M
+trips-spec = tie.close (tie.spec tested-requires tested-requires-2 tested-requires-3 tested-requires-4 tested-requires-5 tested-requires-6 tested-requires-7 all-named-requires all-named-requires-2 returns)

@@ -1,0 +1,2 @@
+-- `Parts`: the causes of the stops.
+pub mod Parts

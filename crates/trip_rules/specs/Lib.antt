@@ -1,0 +1,2 @@
+-- `Parts`: the causes of the trips.
+pub mod Parts
