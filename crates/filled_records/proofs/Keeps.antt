@@ -9,8 +9,9 @@ use lib.Dec.{eqb}
 use lib.Ieee.{Float, nan}
 use lib.ListN.{length, getD}
 use Rattle.records.specs.Rows.{each}
-use Rattle.records.specs.Records.{none, either, withDist, fillRow}
-use Rattle.records.specs.declared.StopTime.{StopTime}
+use Rattle.stop_record.specs.Record.{none, either, withDist}
+use Rattle.records.specs.Records.{fillRow}
+use Rattle.stop_record.specs.declared.StopTime.{StopTime}
 use Rattle.records.proofs.Lists.{each-at}
 
 keeps : (t u : Bool) (s : StopTime) (d : Float) → let r = either t s (either u s (withDist s d)) in (r .stop ≡ s .stop) × (r .arrival ≡ s .arrival) × (r .departure ≡ s .departure) × (r .sequence ≡ s .sequence)

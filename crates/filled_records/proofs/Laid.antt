@@ -17,8 +17,9 @@ use Rattle.row_distances.specs.declared.row.Distance.{Distance}
 use Rattle.row_distances.proofs.Columns.{dists-count, marks-count}
 use Rattle.backfill.proofs.Filling.{backfill-count}
 use Rattle.records.specs.Rows.{each, mapTo}
-use Rattle.records.specs.Records.{none, fillRow, flagOf}
-use Rattle.records.specs.declared.StopTime.{StopTime}
+use Rattle.stop_record.specs.Record.{none}
+use Rattle.records.specs.Records.{fillRow, flagOf}
+use Rattle.stop_record.specs.declared.StopTime.{StopTime}
 use Rattle.filled_records.specs.Records.{lentLine, recordStops, recordRows, recordFilled, ownCalls, coreRows, coreD, coreK, laidA, colD, colK, laidD, laidK, laidR}
 use Rattle.record_refusals.specs.declared.Lent.{Lent}
 

@@ -10,7 +10,7 @@ use Rattle.tables.specs.Bounds.{chartBounds}
 use Rattle.refusals.specs.Refuse.{refusalOf}
 use Rattle.record_faults.specs.Faults.{fold, start, stepOf}
 use Rattle.record_faults.specs.declared.Faults.{Faults}
-use Rattle.records.specs.declared.StopTime.{StopTime}
+use Rattle.stop_record.specs.declared.StopTime.{StopTime}
 use Rattle.record_refusals.specs.Verdict.{lentCauses, verdictOf}
 use Rattle.filled_records.specs.Records.{laidR, laidA, laidD, laidK}
 use Rattle.filled_records.specs.Answers.{codeOf, recordsAfter, stopsAfter, distsAfter, marksAfter}

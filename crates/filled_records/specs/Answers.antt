@@ -11,7 +11,7 @@ use Rattle.refusals.specs.Refuse.{refusalOf}
 use Rattle.row_distances.specs.Rows.{distsIn, marksIn}
 use Rattle.records.specs.Rows.{each}
 use Rattle.records.specs.Records.{fillRow}
-use Rattle.records.specs.declared.StopTime.{StopTime}
+use Rattle.stop_record.specs.declared.StopTime.{StopTime}
 use Rattle.record_faults.specs.Faults.{fold, start, stepOf}
 use Rattle.record_refusals.specs.Verdict.{lentCauses, verdictOf}
 use Rattle.filled_records.specs.Records.{recordFilled}

@@ -17,7 +17,7 @@ use Rattle.backfill.specs.Trip.{backfillOf}
 use Rattle.row_distances.specs.declared.row.Distance.{Distance}
 use Rattle.records.specs.Rows.{each, mapTo}
 use Rattle.records.specs.Records.{fillRow, flagOf, stopCol, distCol, knownCol}
-use Rattle.records.specs.declared.StopTime.{StopTime}
+use Rattle.stop_record.specs.declared.StopTime.{StopTime}
 use Rattle.record_refusals.specs.declared.Lent.{Lent}
 
 -- the points of the trip's shape

@@ -3,7 +3,7 @@
 ghost use mathlib.Core.Path.{_≡_};
 ghost use Rattle.column_floats.specs.Real.{isFinite};
 ghost use Rattle.record_faults.specs.Faults.{fold, outsideOf, infiniteOf, stepOf};
-use records::StopTime;
+use stop_record::StopTime;
 
 // Each is 1 where some record is at fault, and else 0.
 pub struct Faults {

@@ -1,41 +1,12 @@
 // A trip's stop times as records: a slice of structs. Its functions read the records where they lie, as columns, and write the distances that
-// columns have an answer for. The proofs of those that are lent the slice are walks by hand; what is done with one record is a function of its own.
+// columns have an answer for. The proofs of those that are lent the slice are walks by hand; what is done with one record is in `stop_record`.
 ghost use mathlib.Core.Path.{_≡_};
 ghost use Prim.Native.Nat.{_<_, _≤_};
 ghost use lib.ListN.{length};
-ghost use Rattle.records.specs.Records.{filledOf, fillRow, stopCol, distCol, knownCol};
+ghost use Rattle.records.specs.Records.{fillRow, stopCol, distCol, knownCol};
 ghost use Rattle.records.specs.Rows.{each, mapTo};
-
-// Arrival and departure are schedule seconds. What `dist` holds where `measured` is false is no distance.
-#[repr(C)]
-pub struct StopTime {
-    pub stop: u32,
-    pub arrival: u32,
-    pub departure: u32,
-    pub sequence: u32,
-    pub measured: bool,
-    pub dist: f32,
-}
-
-// A record that has a distance keeps it; one that has none takes d where there is an answer: k is not 0.
-pub fn filled(s: StopTime, d: f32, k: u8) -> StopTime
-    ensures { λ r. ⌜ r ≡ filledOf s d k ⌝ }
-{
-    if s.measured {
-        return s;
-    }
-    if k == 0 {
-        return s;
-    }
-    StopTime {
-        stop: s.stop,
-        arrival: s.arrival,
-        departure: s.departure,
-        sequence: s.sequence,
-        measured: true,
-        dist: d,
-    }
-}
+use stop_record::StopTime;
+use stop_record::filled;
 
 // Where a record has no distance and the columns have an answer for its row, it takes the answer. All else is as it was.
 pub fn fill(r: &mut [StopTime], dists: &[f32], known: &[u8])

@@ -12,7 +12,7 @@ use record_faults::Faults;
 use record_refusals::Lent;
 use record_refusals::check_lent;
 use record_refusals::verdict;
-use records::StopTime;
+use stop_record::StopTime;
 use tables::StopTimes;
 use tables::reals_of;
 

@@ -19,7 +19,7 @@ use tally::{same_f32, Tally};
 
 const WORLDS: u64 = 230_000;
 
-/// The structs of crates/records and crates/record_refusals.
+/// The structs of crates/stop_record and crates/record_refusals.
 #[repr(C)]
 #[derive(Clone, Copy, Debug)]
 struct StopTime {

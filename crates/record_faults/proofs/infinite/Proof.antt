@@ -3,7 +3,7 @@ use mathlib.Core.Bool.{true, false}
 use mathlib.Core.Path.{_≡_, sym, _∙_}
 use borrow.Author.Tests.{not-true, not-false}
 use Rattle.column_floats.specs.Real.{isFinite}
-use Rattle.records.specs.declared.StopTime.{StopTime}
+use Rattle.stop_record.specs.declared.StopTime.{StopTime}
 use Rattle.record_faults.specs.Faults.{infiniteOf}
 use Rattle.record_faults.proofs.infinite.Statement.{statement}
 use Rattle.record_faults.proofs.infinite.Tie as tie

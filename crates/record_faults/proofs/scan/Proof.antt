@@ -48,16 +48,16 @@ use denote.Triple.Table.{entered, cited}
 use denote.Triple.Walked.{says, Stays, stay-none-slice, stay-none, walkOf, AllGo, goes-none-slice, goes-none, Walks, ends-at, walked, walk-meets}
 use denote.Exit.{yes}
 use denote.Signature.{plain}
-use Rattle.records.specs.Records.{none}
+use Rattle.stop_record.specs.Record.{none}
 use Rattle.record_faults.specs.Faults.{fold, foldTo, stepOf}
-use Rattle.records.specs.declared.StopTime.{StopTime}
+use Rattle.stop_record.specs.declared.StopTime.{StopTime}
 use Rattle.record_faults.specs.declared.Faults.{Faults}
 use Rattle.record_faults.proofs.Folds.{fold-next, fold-all}
 use Rattle.record_faults.proofs.Faults as S
 use Rattle.record_faults.proofs.Faults.Laws as S′
 use Rattle.records.proofs.Cases.{holds, fails, cases}
-use Rattle.records.proofs.StopTime as T
-use Rattle.records.proofs.StopTime.Laws as T′
+use Rattle.stop_record.proofs.StopTime as T
+use Rattle.stop_record.proofs.StopTime.Laws as T′
 use Rattle.record_faults.proofs.step as step
 use Rattle.record_faults.proofs.step.Symbol as step-def
 use Rattle.record_faults.proofs.step.Symbol.{name as #record_faults·step}

@@ -49,12 +49,13 @@ use denote.Triple.Walked.{says, needs, Stays, stay-slice, stay-none-slice, walkO
 use denote.Exit.{yes}
 use denote.Signature.{plain}
 use Rattle.records.specs.Rows.{mapTo}
-use Rattle.records.specs.Records.{none, flagOf, distCol, knownCol}
-use Rattle.records.specs.declared.StopTime.{StopTime}
+use Rattle.stop_record.specs.Record.{none}
+use Rattle.records.specs.Records.{flagOf, distCol, knownCol}
+use Rattle.stop_record.specs.declared.StopTime.{StopTime}
 use Rattle.records.proofs.Cases.{holds, fails, cases}
 use Rattle.records.proofs.Lists.{length-mapTo, set-next}
-use Rattle.records.proofs.StopTime as T
-use Rattle.records.proofs.StopTime.Laws as T′
+use Rattle.stop_record.proofs.StopTime as T
+use Rattle.stop_record.proofs.StopTime.Laws as T′
 use Rattle.records.proofs.columns.Key.{name as #records·columns}
 use Rattle.records.proofs.columns as f
 use Rattle.records.proofs.columns.Statement as stated

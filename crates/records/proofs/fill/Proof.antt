@@ -52,16 +52,17 @@ use denote.Triple.Walked.{says, needs, Stays, stay-slice, stay-none-slice, walkO
 use denote.Exit.{yes}
 use denote.Signature.{plain}
 use Rattle.records.specs.Rows.{each, mapTo}
-use Rattle.records.specs.Records.{none, filledOf, fillRow}
-use Rattle.records.specs.declared.StopTime.{StopTime}
+use Rattle.stop_record.specs.Record.{none, filledOf}
+use Rattle.records.specs.Records.{fillRow}
+use Rattle.stop_record.specs.declared.StopTime.{StopTime}
 use Rattle.records.proofs.Cases.{holds, fails, cases}
 use Rattle.records.proofs.Lists.{length-mapTo, getD-mapTo, set-next, mapTo-all}
-use Rattle.records.proofs.StopTime as T
-use Rattle.records.proofs.StopTime.Laws as T′
-use Rattle.records.proofs.filled as filled
-use Rattle.records.proofs.filled.Symbol as filled-def
-use Rattle.records.proofs.filled.Symbol.{name as #records·filled}
-use Rattle.records.proofs.filled.Met as filled-thm
+use Rattle.stop_record.proofs.StopTime as T
+use Rattle.stop_record.proofs.StopTime.Laws as T′
+use Rattle.stop_record.proofs.filled as filled
+use Rattle.stop_record.proofs.filled.Symbol as filled-def
+use Rattle.stop_record.proofs.filled.Symbol.{name as #stop_record·filled}
+use Rattle.stop_record.proofs.filled.Met as filled-thm
 use Rattle.records.proofs.fill.Key.{name as #records·fill}
 use Rattle.records.proofs.fill as f
 use Rattle.records.proofs.fill.Statement as stated
@@ -166,7 +167,7 @@ module _ {M : Type 1} (𝓤 : URA M) (H : Heap 𝓤) (A : Atoms 𝓤) (W : Given
   Nearer-wf : WellFounded Nearer
   Nearer-wf = InvImage·wf (λ (i : Upto). n - i .0) (Nat·lt-wfRel .wf)
 
-  module _ (𝓣 : Tables 𝓤 H) (known : Triple 𝓤 (𝓣 .C #records·filled) (Filled 𝓤 H A mem run)) where
+  module _ (𝓣 : Tables 𝓤 H) (known : Triple 𝓤 (𝓣 .C #stop_record·filled) (Filled 𝓤 H A mem run)) where
     abbrev C : Calls 𝓤 H
     C = 𝓣 .C
 
@@ -306,7 +307,7 @@ module _ {M : Type 1} (𝓤 : URA M) (H : Heap 𝓤) (A : Atoms 𝓤) (W : Given
         keep ! (10 ∷ 6 ∷ 0 ∷ 14 ∷ 15 ∷ 16 ∷ 17 ∷ 18 ∷ 19 ∷ 20 ∷ 21 ∷ 22 ∷ 23 ∷ 24 ∷ 25 ∷ 26 ∷ 27 ∷ 28 ∷ 29 ∷ 30 ∷ 31 ∷ 32 ∷ 33 ∷ 34 ∷ 35 ∷ 36 ∷ 37 ∷ 38 ∷ 39 ∷ 40 ∷ 41 ∷ 42 ∷ 43 ∷ 44 ∷ 45 ∷ 46 ∷ 47 ∷ 11 ∷ 12 ∷ 13 ∷ 7 ∷ 9 ∷ 1 ∷ 4 ∷ []) $ first ! $ blocks ! $ loops ! 𝓣 Nearer Nearer-wf (At p₂ p₃ l₀ l₁ l₂ l₃ l₄ l₅ l₆ l₇ l₈ l₉ l₁₀ l₁₁ l₁₂ l₁₃ l₁₄ l₁₅ l₁₆) (turns p₂ p₃ l₀ l₁ l₂ l₃ l₄ l₅ l₆ l₇ l₈ l₉ l₁₀ l₁₁ l₁₂ l₁₃ l₁₄ l₁₅ l₁₆) (0, zero-le))))))))))))))))))))
 
 module _ {M : Type 1} (𝓤 : URA M) (H : Heap 𝓤) (A : Atoms 𝓤) (W : Given 𝓤 H A) (mem : Memory → SProp 𝓤) (run : Routine → Fun 𝓤) (𝓣 : Tables 𝓤 H) where
-  fill-walks : Triple 𝓤 (𝓣 .C #records·filled) (Filled 𝓤 H A mem run) → Walks 𝓤 H A f.ended stayed (WpFn 𝓤 H (𝓣 .C) (𝓣 .Λ) code.function) (f.clauses 𝓤 H A mem run)
+  fill-walks : Triple 𝓤 (𝓣 .C #stop_record·filled) (Filled 𝓤 H A mem run) → Walks 𝓤 H A f.ended stayed (WpFn 𝓤 H (𝓣 .C) (𝓣 .Λ) code.function) (f.clauses 𝓤 H A mem run)
   fill-walks known = walked 𝓤 H A f.ended stayed (f.clauses 𝓤 H A mem run) (WpFn 𝓤 H (𝓣 .C) (𝓣 .Λ) code.function)
       (λ κs. (slice-vals, (slice-vals, (slice-vals, tt)))) (λ κs. (mut-slice-tells (named 0) (κs .0) R, (shr-slice-tells (named 1) (κs .1 .0) f32, (shr-slice-tells (named 2) (κs .1 .1 .0) u8, tt))))
       (λ κs qs bounds a g are. needs 𝓤 ((length (a .0 .now) ≤ length (a .1 .0 .now)) × (length (a .0 .now) ≤ length (a .1 .1 .0 .now))) _ (λ ins.
@@ -316,7 +317,7 @@ module _ {M : Type 1} (𝓤 : URA M) (H : Heap 𝓤) (A : Atoms 𝓤) (W : Given
   goes : AllGo 𝓤 H A W 3 (f.signature .params) (f.ended .kept) stayed
   goes = (goes-slice 𝓤 H A W 3 0 tt (plain (λ _. R)), (goes-none-slice 𝓤 H A W 3 (1 ∷ []) tt (plain (λ _. f32)) yes, (goes-none-slice 𝓤 H A W 3 (2 ∷ []) tt (plain (λ _. u8)) yes, tt)))
 
-  fill-meets : Triple 𝓤 (𝓣 .C #records·filled) (Filled 𝓤 H A mem run) → Meets 𝓤 H A f.signature (WpFn 𝓤 H (𝓣 .C) (𝓣 .Λ) code.function) (f.spec 𝓤 H A mem run)
+  fill-meets : Triple 𝓤 (𝓣 .C #stop_record·filled) (Filled 𝓤 H A mem run) → Meets 𝓤 H A f.signature (WpFn 𝓤 H (𝓣 .C) (𝓣 .Λ) code.function) (f.spec 𝓤 H A mem run)
   fill-meets known = walk-meets 𝓤 H A f.ended stayed W goes (f.clauses 𝓤 H A mem run) (WpFn 𝓤 H (𝓣 .C) (𝓣 .Λ) code.function) (WpFn-mono 𝓤 H (W .laws) 𝓣 code.function) (fill-walks known)
 
 pub fill-spec : {M : Type 1} → stated.statement M
@@ -325,4 +326,4 @@ fill-spec 𝓤 H 𝓜 𝓖 𝓡 =
     entered 𝓤 H (tripleOf 𝓤 H (𝓖 .A) f.signature (f.spec 𝓤 H (𝓖 .A) (𝓜 .mem) (𝓡 .run)))
     (tables 𝓤 H 𝓜 𝓡 code.env .C) (tables 𝓤 H 𝓜 𝓡 code.env .Λ) #records·fill code.function (code.unfolded 𝓤 H 𝓜 𝓡)
     (fill-meets 𝓤 H (𝓖 .A) (givenOf 𝓤 H 𝓜 𝓖) (𝓜 .mem) (𝓡 .run) (tablesOf 𝓤 H 𝓜 (tables 𝓤 H 𝓜 𝓡 code.env))
-    (cited 𝓤 H (Filled 𝓤 H (𝓖 .A) (𝓜 .mem) (𝓡 .run)) 𝓜 𝓡 code.env #records·filled filled-def.routine code.calls-records·filled (filled-thm.met 𝓤 H 𝓜 𝓖 𝓡)))
+    (cited 𝓤 H (Filled 𝓤 H (𝓖 .A) (𝓜 .mem) (𝓡 .run)) 𝓜 𝓡 code.env #stop_record·filled filled-def.routine code.calls-stop-record·filled (filled-thm.met 𝓤 H 𝓜 𝓖 𝓡)))

@@ -46,10 +46,10 @@ use denote.Triple.Walked.{says, needs, Stays, stay-slice, stay-none-slice, stay-
 use denote.Exit.{yes}
 use denote.Signature.{plain}
 use Rattle.records.specs.Records.{fillRow, stopCol, distCol, knownCol}
-use Rattle.records.specs.declared.StopTime.{StopTime}
+use Rattle.stop_record.specs.declared.StopTime.{StopTime}
 use Rattle.records.proofs.Lists.{length-mapTo, length-each}
 use Rattle.records.proofs.Lent.{at-name, lend-mut, back-mut, lend-shr, back-shr}
-use Rattle.records.proofs.StopTime as T
+use Rattle.stop_record.proofs.StopTime as T
 use Rattle.record_refusals.specs.declared.Lent.{Lent}
 use Rattle.record_refusals.proofs.Lent as Lt
 use Rattle.record_refusals.proofs.Lent.Laws as Lt′

@@ -1,0 +1,2 @@
+-- What the contract cites. `Record`: a record that is filled.
+pub mod Record
