@@ -23,17 +23,31 @@ use libc::STDIN_FILENO;
 
 fn main() {
     let mut text = [0u8; 524288];
-    let mut byte_space = [0u8; 262144];
-    let mut word_space = [0u32; 393216];
-    let mut time_space = [0i64; 4096];
-    let mut real_space = [0.0f64; 131072];
-    let mut dist_space = [0.0f32; 131072];
-    let bytes: &mut [u8] = &mut byte_space;
-    let words: &mut [u32] = &mut word_space;
-    let times: &mut [i64] = &mut time_space;
-    let reals: &mut [f64] = &mut real_space;
-    let dists: &mut [f32] = &mut dist_space;
-    let n = io::read_full(STDIN_FILENO, &mut text);
+    let mut bytes = [0u8; 262144];
+    let mut words = [0u32; 393216];
+    let mut times = [0i64; 4096];
+    let mut reals = [0.0f64; 131072];
+    let mut dists = [0.0f32; 131072];
+    read(
+        &mut text,
+        &mut bytes,
+        &mut words,
+        &mut times,
+        &mut reals,
+        &mut dists,
+    );
+}
+
+// Reads the script, and replays it.
+fn read(
+    text: &mut [u8],
+    bytes: &mut [u8],
+    words: &mut [u32],
+    times: &mut [i64],
+    reals: &mut [f64],
+    dists: &mut [f32],
+) {
+    let n = io::read_full(STDIN_FILENO, text);
     replay(bytes, words, times, reals, dists, &text[..n]);
 }
 
