@@ -4,11 +4,9 @@ use mathlib.Core.List.{List}
 use lib.Ieee.{Float}
 use Rattle.tables.specs.declared.lent.StopTimes.{StopTimes}
 use Rattle.tables.specs.declared.lent.Stops.{Stops}
-use Rattle.tables.specs.declared.lent.Trips.{Trips}
 use Rattle.lengths.specs.declared.line.Point.{Point}
 use Rattle.projection.specs.declared.cursor.Position.{Position}
 use Rattle.chain_rows.specs.declared.chain.Chain.{Chain}
-use Rattle.chain_rows.specs.Rows.{legChain}
 use Rattle.chain_lines.specs.Thin.{chainFrom}
 use Rattle.chain_lines.specs.Stops.{stopBetween, pointsBelow}
 
@@ -23,7 +21,3 @@ lineFrom stop chain = chainFrom (chain .reversed) (chain .from) (chain .to) (poi
 -- the chain's points
 abbrev pub chainLine : List ℕ → List ℕ → List Float → Stops → StopTimes → Chain → List Point
 chainLine bytes words reals s c chain = lineFrom (stopOf bytes words reals s c chain) chain
-
--- the points of the chain of a leg of a trip
-abbrev pub chainOf : List ℕ → List ℕ → List Float → Stops → StopTimes → Trips → ℕ → ℕ → Point → ℕ → Point → List Point
-chainOf bytes words reals s c trips trip before from after to = chainLine bytes words reals s c (legChain words trips trip before from after to)

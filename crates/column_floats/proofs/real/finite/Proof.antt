@@ -1,4 +1,4 @@
--- `columns::real::finite` meets its contract.
+-- `column_floats::real::finite` meets its contract.
 use mathlib.Core.Path.{_≡_, refl}
 use mathlib.Core.Bool.{true, false}
 use lib.Ieee.{Float, nan, inf, fin, lt, div, neg, ofBits}

@@ -1,4 +1,4 @@
--- `columns::real::not_finite` meets its contract. The loop's invariant: no row before k that counts is at fault.
+-- `column_floats::real::not_finite` meets its contract. The loop's invariant: no row before k that counts is at fault.
 use native.Mathlib.Omega.{arith}
 use Prim.Native.Nat.{_-_}
 use mathlib.Core.Logic.{⊎-elim}

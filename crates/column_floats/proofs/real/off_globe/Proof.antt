@@ -1,4 +1,4 @@
--- `columns::real::off_globe` meets its contract. The loop's invariant: no row before k that counts is at fault.
+-- `column_floats::real::off_globe` meets its contract. The loop's invariant: no row before k that counts is at fault.
 use native.Mathlib.Omega.{arith}
 use Prim.Native.Nat.{_-_, min}
 use mathlib.Core.Logic.{⊎-elim}

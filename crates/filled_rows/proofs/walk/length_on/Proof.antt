@@ -1,4 +1,4 @@
--- `backfill::walk::length_on` meets its contract. The loop's invariant: m is the length to vertex k.
+-- `filled_rows::walk::length_on` meets its contract. The loop's invariant: m is the length to vertex k.
 use Prim.Native.Nat.{_-_, _≤_}
 use native.Mathlib.Omega.{arith}
 use mathlib.Core.Path.{_≡_, sym, ap, _∙_}

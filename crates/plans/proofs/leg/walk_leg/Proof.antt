@@ -1,4 +1,4 @@
--- `estimate::leg::walk_leg` meets its contract.
+-- `plans::leg::walk_leg` meets its contract.
 use borrow.Author.Needs.{needs}
 use Rattle.plans.proofs.leg.walk_leg.Statement.{statement}
 use Rattle.plans.proofs.leg.walk_leg.Tie as tie

@@ -1,4 +1,4 @@
--- `estimate::pin::at_row` meets its contract.
+-- `plans::pinned::at_row` meets its contract.
 use borrow.Author.Needs.{needs}
 use Rattle.plans.proofs.pinned.at_row.Statement.{statement}
 use Rattle.plans.proofs.pinned.at_row.Tie as tie

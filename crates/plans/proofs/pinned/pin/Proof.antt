@@ -1,4 +1,4 @@
--- `estimate::pin::pin` meets its contract.
+-- `plans::pinned::pin` meets its contract.
 use borrow.Author.Needs.{needs}
 use Rattle.plans.proofs.pinned.pin.Statement.{statement}
 use Rattle.plans.proofs.pinned.pin.Tie as tie

@@ -1,4 +1,4 @@
--- `estimate::turn::approach_from` meets its contract.
+-- `plans::turn::approach_from` meets its contract.
 use borrow.Author.Needs.{needs}
 use Rattle.plans.proofs.turn.approach_from.Statement.{statement}
 use Rattle.plans.proofs.turn.approach_from.Tie as tie

@@ -1,4 +1,4 @@
--- `estimate::turn::approach_status` meets its contract.
+-- `plans::turn::approach_status` meets its contract.
 use borrow.Author.Needs.{needs}
 use Rattle.plans.proofs.turn.approach_status.Statement.{statement}
 use Rattle.plans.proofs.turn.approach_status.Tie as tie

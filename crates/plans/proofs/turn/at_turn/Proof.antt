@@ -1,4 +1,4 @@
--- `estimate::turn::at_turn` meets its contract. The call of a turn is one of the calls, of which there are no more than 256.
+-- `plans::turn::at_turn` meets its contract. The call of a turn is one of the calls, of which there are no more than 256.
 use borrow.Author.Needs.{needs}
 use native.Mathlib.Omega.{arith}
 use mathlib.Core.Path.{sym, _∙_}

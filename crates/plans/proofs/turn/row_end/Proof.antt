@@ -1,4 +1,4 @@
--- `estimate::turn::row_end` meets its contract.
+-- `plans::turn::row_end` meets its contract.
 use borrow.Author.Needs.{needs}
 use Rattle.plans.proofs.turn.row_end.Statement.{statement}
 use Rattle.plans.proofs.turn.row_end.Tie as tie

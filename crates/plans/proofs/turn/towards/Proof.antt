@@ -1,4 +1,4 @@
--- `estimate::turn::towards` meets its contract.
+-- `plans::turn::towards` meets its contract.
 use borrow.Author.Needs.{needs}
 use borrow.Author.Tests.{lt-ltb}
 use mathlib.Core.Path.{_∙_}

@@ -1,4 +1,4 @@
--- `estimate::turn::under_way` meets its contract.
+-- `plans::turn::under_way` meets its contract.
 use borrow.Author.Needs.{needs}
 use native.Mathlib.Omega.{arith}
 use Rattle.plans.proofs.turn.under_way.Statement.{statement}
