@@ -15,9 +15,9 @@ use Rattle.tables.specs.declared.lent.Tables.{Tables}
 use Rattle.checks.specs.Operations.{estimateCauses}
 use Rattle.trip_rows.specs.Rows.{shapeColumn}
 use Rattle.paths.specs.declared.path.End.{End}
-use Rattle.legs.proofs.Agree.{agrees}
-use Rattle.legs.proofs.Chosen.{path-few}
-use Rattle.legs.proofs.Onward.{never-earlier}
+use Rattle.leg_order.proofs.Agree.{agrees}
+use Rattle.leg_order.proofs.Chosen.{path-few}
+use Rattle.leg_order.proofs.Onward.{never-earlier}
 use Rattle.leg_paths.specs.Leg.{legCount, legSpan, legShape, legStops}
 use Rattle.leg_paths.proofs.Legs.{chain-few, path-is-chosen}
 use Rattle.previous.specs.Before.{prevRow}

@@ -7,7 +7,7 @@ use Rattle.ids.specs.declared.pool.Span.{Span}
 use Rattle.tables.specs.Pools.{Pools, partOf}
 use Rattle.tables.specs.declared.lent.Sailing.{Sailing}
 use Rattle.tables.specs.declared.lent.Tables.{Tables}
-use Rattle.legs.specs.Granted.{Granted}
+use Rattle.leg_order.specs.Granted.{Granted}
 use Rattle.timeline_order.specs.Order.{Timely}
 use Rattle.calls.specs.Calls.{reportedOf, callRows}
 use Rattle.best_rows.specs.Serving.{bestRow}

@@ -1,4 +1,3 @@
--- `Clocks`: what is lent with two clocks, and what demand 3 grants of it. `Silent`: document 01's cases of silence. `Case`: its case of the Board, as a witness.
+-- `Clocks`: what is lent with two clocks, and what demand 3 grants of it. `Silent`: document 01's cases of silence.
 pub mod Clocks
 pub mod Silent
-pub mod Case

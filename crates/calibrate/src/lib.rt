@@ -3,7 +3,5 @@
 mod affine; // affine.rt: the metres that samples' distances stand for
 mod scale; // scale.rt: the unit that a ratio is near
 
-pub use affine::Calibration;
 pub use affine::shape_dist_affine;
-pub use scale::Snapped;
 pub use scale::snap_unit_scale;

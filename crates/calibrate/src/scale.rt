@@ -1,21 +1,14 @@
 // The unit that a ratio is near.
 use geometry_checks::check_calibration;
+use lent_samples::scale_answer;
+use line_answers::Snapped;
 use tables::Bounds;
 use tables::Samples;
 use tables::reals_of;
 ghost use mathlib.Core.Path.{_≡_};
 ghost use Rattle.tables.specs.Pools.{pools};
-ghost use Rattle.calibrate.specs.Answers.{snappedAnswer, snappedOf};
-
-// What `snap_unit_scale` answers.
-pub enum Snapped {
-    // the metres of a unit of distance
-    Scale(f64),
-    // no ratio is lent
-    Nothing,
-    // the number of the refusal
-    Refused(u32),
-}
+ghost use Rattle.line_answers.specs.Answers.{snappedAnswer};
+ghost use Rattle.calibrate.specs.Answers.{snappedOf};
 
 // The metres of the unit that the ratio is near, or the ratio itself. The ratio is the first of the numbers
 // that are lent.
@@ -33,9 +26,5 @@ pub fn snap_unit_scale(
     if refusal != 0 {
         return Snapped::Refused(refusal);
     }
-    let numbers = reals_of(reals, s.numbers);
-    if numbers.len() == 0 {
-        return Snapped::Nothing;
-    }
-    Snapped::Scale(unit_scales::snap_unit_scale(numbers[0]))
+    scale_answer(reals_of(reals, s.numbers))
 }

@@ -238,3 +238,10 @@ pub fn read(
     }
     ended(words, so_far)
 }
+
+// Writes the refusal of a text that is no case, and its cause.
+pub fn print_fault(r: Reading) {
+    let form = r.form;
+    let why = r.why;
+    case_answers::print_fault(r.lines, form, why);
+}

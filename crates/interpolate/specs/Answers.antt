@@ -1,5 +1,5 @@
 -- Interpolation alone as an operation: the first refusal that applies, or the position asked for.
-use Rattle.measure.specs.Answer.{Answer, refused, given}
+use Rattle.measure.specs.Answer.{Answer}
 use Rattle.answers.specs.Answers.{unlessRefused}
 use Rattle.tables.specs.Pools.{Pools}
 use Rattle.tables.specs.Bounds.{chartBounds}
@@ -7,17 +7,8 @@ use Rattle.refusals.specs.Refuse.{refusalOf}
 use Rattle.tables.specs.declared.lent.Along.{Along}
 use Rattle.geometry_checks.specs.Operations.{interpolationCauses}
 use Rattle.stretches.specs.declared.drawing.Interpolated.{Interpolated}
-use Rattle.stretches.specs.declared.drawing.Interpolated.the-variants.{At, Nothing}
 use Rattle.line_questions.specs.Asked.{alongLent}
 use Rattle.line_questions.specs.declared.asked.Question.{Question}
-use Rattle.interpolate.specs.declared.operation.Interpolation.{Interpolation}
-use Rattle.interpolate.specs.declared.operation.Interpolation.the-variants.{At as Drawn, Nothing as NoAnswer, Refused}
-
--- the number and the value of each case
-abbrev pub interpolationAnswer : Interpolation → Answer Interpolated
-interpolationAnswer (Drawn d) = given (At d)
-interpolationAnswer NoAnswer = given Nothing
-interpolationAnswer (Refused n) = refused n
 
 unfoldable pub interpolationOf : Pools → Question → Along → Answer Interpolated
 interpolationOf p question a = unlessRefused (refusalOf p (interpolationCauses chartBounds a)) (alongLent (p .reals) (p .dists) question a)

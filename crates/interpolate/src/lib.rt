@@ -2,5 +2,4 @@
 // first refusal of 1, 2, 3 and 8 that applies; numbers may be infinite, and are followed.
 mod operation; // operation.rt: the operation
 
-pub use operation::Interpolation;
 pub use operation::interpolate;

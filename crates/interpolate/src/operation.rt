@@ -1,23 +1,15 @@
 // The operation.
 use geometry_checks::check_interpolation;
+use line_answers::Interpolation;
 use line_questions::Question;
 use line_questions::lent;
-use stretches::Drawn;
 use stretches::Interpolated;
 use tables::Along;
 use tables::Bounds;
 ghost use mathlib.Core.Path.{_≡_};
 ghost use Rattle.tables.specs.Pools.{pools};
-ghost use Rattle.interpolate.specs.Answers.{interpolationAnswer, interpolationOf};
-
-// What an interpolation answers.
-pub enum Interpolation {
-    // this position, and the bearing there
-    At(Drawn),
-    Nothing,
-    // the number of the refusal
-    Refused(u32),
-}
+ghost use Rattle.line_answers.specs.Answers.{interpolationAnswer};
+ghost use Rattle.interpolate.specs.Answers.{interpolationOf};
 
 // The position that the question asks for, or none, or the first refusal that applies.
 pub fn interpolate(

@@ -11,9 +11,9 @@ use Rattle.trip_samples.specs.Trip.{tripAffine}
 use Rattle.courses.specs.declared.course.Course.{Course}
 use Rattle.chain_lines.specs.Chain.{stopOf}
 use Rattle.chain_lines.proofs.Line.{two-or-more, rows-and-two, starts-at, ends-at}
-use Rattle.legs.specs.Granted.{Chained}
+use Rattle.leg_order.specs.Granted.{Chained}
 use Rattle.paths.specs.declared.path.End.{End}
-use Rattle.legs.proofs.Chosen.{Chosen, straight, path-chosen}
+use Rattle.leg_order.proofs.Chosen.{Chosen, straight, path-chosen}
 use Rattle.seq_distances.specs.Dist.{seqDist}
 use Rattle.leg_paths.specs.Leg.{legCount, legShape, legRows, legStops, tripPath, legPath}
 use Rattle.leg_paths.proofs.Choice.{in-reach, start-is, end-is}

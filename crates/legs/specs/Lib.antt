@@ -1,6 +1,3 @@
--- What the contracts and theorems cite. `Place`: where on a leg, and the coordinates there. `Walk`: what a walk along a leg gives.
--- `Order`: which place is no earlier than which. `Granted`: what is granted of a leg where the order is proved.
+-- What the contracts cite. `Place`: where on a leg. `Walk`: what a walk along a leg gives.
 pub mod Place
 pub mod Walk
-pub mod Order
-pub mod Granted

@@ -5,7 +5,7 @@ use Rattle.floats.specs.Number.{nought}
 use Rattle.measure.specs.Answer.{Answer, refused, given}
 use Rattle.unit_scales.specs.declared.metres.Calibrated.the-variants.{By, Nothing as Uncalibrated}
 use Rattle.unit_scales.specs.declared.metres.Calibrated.{Calibrated}
-use Rattle.calibrate.specs.Answers.{Perhaps, none, one}
+use Rattle.line_answers.specs.Answers.{Perhaps, none, one}
 use Rattle.stretches.specs.declared.drawing.Interpolated.{Interpolated}
 use Rattle.stretches.specs.declared.drawing.Interpolated.the-variants.{At, Nothing}
 use Rattle.line_told.specs.declared.metres.MetresTold.{MetresTold}

@@ -1,7 +1,7 @@
 // The metres that samples' distances stand for.
-use calibrate::Calibration;
+use line_answers::Calibration;
 ghost use mathlib.Core.Path.{_≡_};
-ghost use Rattle.calibrate.specs.Answers.{calibrationAnswer};
+ghost use Rattle.line_answers.specs.Answers.{calibrationAnswer};
 ghost use Rattle.line_told.specs.Told.{metresTold};
 
 // A distance d stands for shift + scale·d metres. `refusal`: document 01's number, or 0. `answered`: 1 with a

@@ -1,7 +1,7 @@
 // The position at a fraction.
-use interpolate::Interpolation;
+use line_answers::Interpolation;
 ghost use mathlib.Core.Path.{_≡_};
-ghost use Rattle.interpolate.specs.Answers.{interpolationAnswer};
+ghost use Rattle.line_answers.specs.Answers.{interpolationAnswer};
 ghost use Rattle.line_told.specs.Told.{noPosition, positionTold};
 
 // `refusal`: document 01's number, or 0. `answered`: 1 with a position, else 0, and so are its numbers.

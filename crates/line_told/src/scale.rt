@@ -1,7 +1,7 @@
 // The unit that a ratio is near.
-use calibrate::Snapped;
+use line_answers::Snapped;
 ghost use mathlib.Core.Path.{_≡_};
-ghost use Rattle.calibrate.specs.Answers.{snappedAnswer};
+ghost use Rattle.line_answers.specs.Answers.{snappedAnswer};
 ghost use Rattle.line_told.specs.Told.{scaleTold};
 
 // `refusal`: document 01's number, or 0. `answered`: 1 with a scale, else 0, and so is the scale.

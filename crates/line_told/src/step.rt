@@ -1,7 +1,7 @@
 // A stop from a cursor on.
-use stop_projection::Stepped;
+use line_answers::Stepped;
 ghost use mathlib.Core.Path.{_≡_};
-ghost use Rattle.stop_projection.specs.Step.{stepAnswer};
+ghost use Rattle.line_answers.specs.Answers.{stepAnswer};
 ghost use Rattle.line_told.specs.Told.{stepTold};
 
 // `refusal`: document 01's number, or 0. Where it is refused, the next cursor and the vertex are 0.

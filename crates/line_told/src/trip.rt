@@ -1,7 +1,7 @@
 // A trip's stops.
-use trip_vertices::Projected;
+use line_answers::Projected;
 ghost use mathlib.Core.Path.{_≡_};
-ghost use Rattle.trip_vertices.specs.Written.{projectAnswer};
+ghost use Rattle.line_answers.specs.Answers.{projectAnswer};
 ghost use Rattle.line_told.specs.Told.{rowsTold};
 
 // `refusal`: document 01's number, or 0. `rows`: how many rows of the output are written; 0 where it is refused.

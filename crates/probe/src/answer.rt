@@ -1,15 +1,20 @@
-// Each query by its kind.
-use crate::numbers;
+// Each line of queries.
 use case_queries::Query;
 use case_tables::Case;
 use case_tables::layout;
-use probe_pools::write::double_line;
-use probe_pools::write::single_line;
+use estimate::estimate;
+use probe_pools::asked;
 ghost use Prim.Native.Nat.{_≤_};
 ghost use lib.ListN.{length};
 
+// The place beside the estimate of the case that the pools hold.
+fn place(bytes: &[u8], words: &[u32], times: &[i64], reals: &[f64], dists: &[f32], c: Case) {
+    let t = case_tables::tables(c);
+    estimate_words::print_place(estimate(bytes, words, times, reals, dists, t));
+}
+
 // A query of what a case holds.
-fn of_case(
+fn answer(
     s: &[u8],
     bytes: &mut [u8],
     words: &mut [u32],
@@ -17,72 +22,11 @@ fn of_case(
     reals: &mut [f64],
     dists: &mut [f32],
     c: Case,
-    q: Query,
 ) {
+    let q = case_queries::query_of(s);
     match q {
-        Query::Runs(date) => probe_schedule::runs(s, bytes, words, times, reals, dists, c, date),
-        Query::Match => probe_schedule::match_journey(bytes, words, times, reals, dists, c),
-        Query::Leg(from, to) => {
-            probe_shapes::draw_leg(s, bytes, words, times, reals, dists, c, from, to)
-        }
-        Query::Place => estimate_lines::print_place(bytes, words, times, reals, dists),
-        _ => of_shapes(bytes, words, times, reals, dists, c, q),
-    }
-}
-
-// A query of shapes, or of a static trip on its shape.
-fn of_shapes(
-    bytes: &[u8],
-    words: &mut [u32],
-    times: &[i64],
-    reals: &mut [f64],
-    dists: &mut [f32],
-    c: Case,
-    q: Query,
-) {
-    match q {
-        Query::Project(trip) => probe_shapes::project(bytes, words, times, reals, dists, c, trip),
-        Query::Backfill(trip) => {
-            probe_shapes::backfill(bytes, words, times, reals, dists, c, trip)
-        }
-        Query::Calibrate(trip) => {
-            probe_shapes::calibrate_trip(bytes, words, times, reals, dists, c, trip)
-        }
-        Query::Along(shape, from, to, fraction) => probe_shapes::place_along(
-            bytes,
-            words,
-            times,
-            reals,
-            dists,
-            c,
-            shape,
-            from,
-            to,
-            fraction,
-        ),
-        Query::Snap(x) => probe_shapes::snap(bytes, words, times, reals, dists, x),
-        _ => of_numbers(q),
-    }
-}
-
-// A query of numbers alone.
-fn of_numbers(q: Query) {
-    match q {
-        Query::Sin(x) => double_line(maths::sin(x)),
-        Query::Cos(x) => double_line(maths::cos(x)),
-        Query::Atan(x) => numbers::atan(x),
-        Query::Asin(x) => double_line(arcs::asin(x)),
-        Query::Root(x) => double_line(roots::root(x)),
-        Query::Atan2(y, x) => double_line(arcs::atan2(y, x)),
-        Query::Narrow(x) => single_line(float_bits::narrow(x)),
-        Query::Haversine(lat, lon, to_lat, to_lon) => {
-            numbers::print_measured(measure::haversine_m(lat, lon, to_lat, to_lon))
-        }
-        Query::Bearing(lat, lon, to_lat, to_lon) => {
-            numbers::print_measured(measure::bearing_deg(lat, lon, to_lat, to_lon))
-        }
-        Query::Date(n) => probe_schedule::date(n),
-        _ => {}
+        Query::Place => place(bytes, words, times, reals, dists, c),
+        _ => probe_answers::answer(s, bytes, words, times, reals, dists, c, q),
     }
 }
 
@@ -110,6 +54,7 @@ pub(crate) fn answer_all(
     reals: &mut [f64],
     dists: &mut [f32],
 ) {
+    asked::plain_ids(bytes, words);
     let c = case_tables::case_of(words);
     let n = case_tables::count(words, layout::HELD_QUERY_BYTES);
     let text = ids::part(queries, 0, n as usize);
@@ -117,16 +62,7 @@ pub(crate) fn answer_all(
     while at < text.len() {
         let end = line_end(text, at);
         let s = &text[at..end];
-        of_case(
-            s,
-            bytes,
-            words,
-            times,
-            reals,
-            dists,
-            c,
-            case_queries::query_of(s),
-        );
+        answer(s, bytes, words, times, reals, dists, c);
         at = end + 1;
     }
 }

@@ -26,7 +26,7 @@ pub fn date(n: u32) {
             write::count(day_counts::weekday(day) as u64);
             write::text(b")\n");
         }
-        ReadDate::NotADate => cases::print_refusal(10),
+        ReadDate::NotADate => case_answers::print_refusal(10),
     }
 }
 
@@ -54,7 +54,7 @@ fn print_running(answer: Running) {
     match answer {
         Running::Runs => write::text(b"(yes)\n"),
         Running::Rests => write::text(b"(no)\n"),
-        Running::Refused(number) => cases::print_refusal(number),
+        Running::Refused(number) => case_answers::print_refusal(number),
     }
 }
 
@@ -213,8 +213,8 @@ fn print_matched(answer: Matched) {
             write::count(n as u64);
             write::text(b")\n");
         }
-        Matched::Nothing => cases::print_none(),
-        Matched::Refused(number) => cases::print_refusal(number),
+        Matched::Nothing => case_answers::print_none(),
+        Matched::Refused(number) => case_answers::print_refusal(number),
     }
 }
 

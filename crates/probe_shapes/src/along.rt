@@ -1,12 +1,12 @@
 // Places along a shape, units, and a trip's calibration.
-use calibrate::Calibration;
-use calibrate::Snapped;
 use case_tables::Case;
 use case_tables::layout;
 use case_tables::put;
 use case_tables::span;
 use ids::Span;
-use interpolate::Interpolation;
+use line_answers::Calibration;
+use line_answers::Interpolation;
+use line_answers::Snapped;
 use line_questions::Question;
 use probe_pools::asked;
 use probe_pools::write;
@@ -53,8 +53,8 @@ pub fn snap(bytes: &[u8], words: &[u32], times: &[i64], reals: &mut [f64], dists
     };
     match calibrate::snap_unit_scale(bytes, words, times, reals, dists, lent) {
         Snapped::Scale(scale) => write::double_line(scale),
-        Snapped::Nothing => cases::print_none(),
-        Snapped::Refused(number) => cases::print_refusal(number),
+        Snapped::Nothing => case_answers::print_none(),
+        Snapped::Refused(number) => case_answers::print_refusal(number),
     }
 }
 
@@ -69,8 +69,8 @@ fn print_place(answer: Interpolation) {
             write::double(at.bearing);
             write::text(b")\n");
         }
-        Interpolation::Nothing => cases::print_none(),
-        Interpolation::Refused(number) => cases::print_refusal(number),
+        Interpolation::Nothing => case_answers::print_none(),
+        Interpolation::Refused(number) => case_answers::print_refusal(number),
     }
 }
 
@@ -103,7 +103,7 @@ pub fn place_along(
     fraction: f64,
 ) {
     if c.shapes <= shape {
-        cases::print_refusal(5);
+        case_answers::print_refusal(5);
         return;
     }
     put_along(reals, dists, from, to, fraction);
@@ -210,8 +210,8 @@ fn print_calibration(answer: Calibration) {
             write::double(affine.b);
             write::text(b")\n");
         }
-        Calibration::Nothing => cases::print_none(),
-        Calibration::Refused(number) => cases::print_refusal(number),
+        Calibration::Nothing => case_answers::print_none(),
+        Calibration::Refused(number) => case_answers::print_refusal(number),
     }
 }
 
@@ -239,7 +239,7 @@ pub fn calibrate_trip(
     trip: u32,
 ) {
     if c.trips <= trip {
-        cases::print_refusal(5);
+        case_answers::print_refusal(5);
         return;
     }
     let first = ids::cell(words, span(layout::TRIP_FIRST, 0), trip as usize);

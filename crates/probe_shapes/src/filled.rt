@@ -3,8 +3,8 @@ use crate::stops::lent;
 use case_tables::Case;
 use case_tables::layout;
 use case_tables::span;
+use line_answers::Backfilled;
 use probe_pools::write;
-use trip_backfill::Backfilled;
 
 // The refusal of a trip that may be none of so many, where the operation refuses with n, or with 0 not at all: a trip past the table gets 5, in its turn.
 fn refusal(n: u32, trip: u32, trips: u32) -> u32 {
@@ -90,6 +90,6 @@ pub fn backfill(
     if n == 0 {
         print_filled(words, filled, marks, trip);
     } else {
-        cases::print_refusal(n);
+        case_answers::print_refusal(n);
     }
 }

@@ -30,7 +30,7 @@ fn points_line(lat: &[f64], lon: &[f64], n: usize) {
 fn print_drawing(lat: &[f64], lon: &[f64], answer: Drawing) {
     match answer {
         Drawing::Points(n) => points_line(lat, lon, n),
-        Drawing::Refused(number) => cases::print_refusal(number),
+        Drawing::Refused(number) => case_answers::print_refusal(number),
     }
 }
 

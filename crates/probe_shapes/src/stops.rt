@@ -3,6 +3,7 @@ use case_tables::Case;
 use case_tables::layout;
 use case_tables::put;
 use case_tables::span;
+use line_answers::Projected;
 use probe_pools::asked;
 use probe_pools::write;
 use tables::IdRows;
@@ -10,7 +11,6 @@ use tables::LegAsked;
 use tables::Stops;
 use tables::Tables;
 use tables::Trips;
-use trip_vertices::Projected;
 
 // Stops and trips of which a query of a trip's row is lent positions, rows and shapes, and no ids.
 fn plain_stops(t: Tables, n: u32) -> Stops {
@@ -100,10 +100,10 @@ fn print_projected(bytes: &[u8], vertices: &[u32], trip: u32, answer: Projected)
             if is_shaped(bytes, trip) {
                 vertices_line(vertices, n);
             } else {
-                cases::print_none();
+                case_answers::print_none();
             }
         }
-        Projected::Refused(number) => cases::print_refusal(number),
+        Projected::Refused(number) => case_answers::print_refusal(number),
     }
 }
 

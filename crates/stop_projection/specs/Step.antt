@@ -7,7 +7,7 @@ use lib.Ieee.{Float}
 use lib.ListN.{length}
 use Rattle.column_floats.specs.Real.{offGlobeAt}
 use Rattle.columns.specs.Rows.{some}
-use Rattle.measure.specs.Answer.{Answer, refused, given}
+use Rattle.measure.specs.Answer.{Answer}
 use Rattle.globe.specs.Globe.{onGlobe}
 use Rattle.answers.specs.Answers.{unlessRefused}
 use Rattle.lengths.specs.Line.{lineOf}
@@ -15,8 +15,6 @@ use Rattle.lengths.specs.declared.line.Point.{Point}
 use Rattle.projection.specs.Projection.{stepOf}
 use Rattle.projection.specs.declared.cursor.Cursor.{Cursor}
 use Rattle.projection.specs.declared.cursor.Step.{Step}
-use Rattle.stop_projection.specs.declared.step.Stepped.{Stepped}
-use Rattle.stop_projection.specs.declared.step.Stepped.the-variants.{To, Refused}
 
 -- 1 for columns of unequal length, 2 for over 8,192 points, 3 for a point or a stop off the globe; else 0
 unfoldable pub stepRefusal : List Float → List Float → Point → ℕ
@@ -24,11 +22,6 @@ stepRefusal lat lon stop =
     cond (eqb (length lat) (length lon))
     (cond (ltb 8192 (length lat)) 2 (cond (some (offGlobeAt lat lon) (length lat)) 3 (cond (onGlobe (stop .lat) (stop .lon)) 0 3)))
     1
-
--- the number and the value of each case
-abbrev pub stepAnswer : Stepped → Answer Step
-stepAnswer (To s) = given s
-stepAnswer (Refused n) = refused n
 
 unfoldable pub steppedOf : List Float → List Float → Cursor → Point → Answer Step
 steppedOf lat lon c stop = unlessRefused (stepRefusal lat lon stop) (stepOf (lineOf lat lon) c stop)

@@ -1,17 +1,10 @@
 // The cursor's step on a lent line.
 use lengths::Point;
+use line_answers::Stepped;
 use projection::Cursor;
-use projection::Step;
 ghost use mathlib.Core.Path.{_≡_};
-ghost use Rattle.stop_projection.specs.Step.{stepRefusal, stepAnswer, steppedOf};
-
-// What a step answers.
-pub enum Stepped {
-    // the next cursor, and the vertex of the stop
-    To(Step),
-    // the number of the refusal
-    Refused(u32),
-}
+ghost use Rattle.line_answers.specs.Answers.{stepAnswer};
+ghost use Rattle.stop_projection.specs.Step.{stepRefusal, steppedOf};
 
 // The first refusal that applies, or 0: columns of unequal length, over 8,192 points, a position off the globe.
 fn refusal(lat: &[f64], lon: &[f64], stop: Point) -> u32

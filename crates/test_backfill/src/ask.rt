@@ -1,10 +1,10 @@
 // The answer to a question.
 use libc::STDOUT_FILENO;
+use line_answers::Backfilled;
 use tables::bytes_of;
 use tables::dists_of;
 use tables::reals_of;
 use tables::words_of;
-use trip_backfill::Backfilled;
 use trip_backfill::backfill_trip;
 use trip_backfill::backfill_trips;
 

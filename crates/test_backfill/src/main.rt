@@ -15,16 +15,12 @@ use libc::STDIN_FILENO;
 
 fn main() {
     let mut text = [0u8; 262144];
-    let mut byte_space = [0u8; 4096];
-    let mut word_space = [0u32; 4096];
-    let mut real_space = [0.0f64; 4096];
-    let mut dist_space = [0.0f32; 4096];
-    let bytes: &mut [u8] = &mut byte_space;
-    let words: &mut [u32] = &mut word_space;
-    let reals: &mut [f64] = &mut real_space;
-    let dists: &mut [f32] = &mut dist_space;
+    let mut bytes = [0u8; 4096];
+    let mut words = [0u32; 4096];
+    let mut reals = [0.0f64; 4096];
+    let mut dists = [0.0f32; 4096];
     let n = io::read_full(STDIN_FILENO, &mut text);
-    replay(bytes, words, reals, dists, &text[..n]);
+    replay(&mut bytes, &mut words, &mut reals, &mut dists, &text[..n]);
 }
 
 fn replay(bytes: &mut [u8], words: &mut [u32], reals: &mut [f64], dists: &mut [f32], text: &[u8]) {

@@ -1,5 +1,5 @@
 // The operations, and the answer to a question.
-use crate::script::Script;
+use fault_scripts::Script;
 use libc::STDOUT_FILENO;
 use tables::bytes_of;
 use tables::dists_of;

@@ -15,10 +15,8 @@ ghost use Prim.Native.Nat.{_≤_};
 ghost use lib.ListN.{length};
 
 mod ask; // ask.rt: the operations, and the answer to a question
-mod put; // put.rt: numbers into pools
-mod script; // script.rt: a script's words, and what those read so far have set
 
-use crate::script::Script;
+use fault_scripts::Script;
 use libc::STDIN_FILENO;
 
 fn main() {
@@ -163,10 +161,10 @@ fn act(
     match letter {
         0 => read,
         b'b' | b'w' | b't' | b'r' | b'd' => read.placed(),
-        b'=' | b'-' | b'x' => put::one(bytes, words, times, reals, dists, read),
+        b'=' | b'-' | b'x' => fault_scripts::one(bytes, words, times, reals, dists, read),
         b's' => read.stepped(),
-        b'n' => put::more(words, read),
-        b'i' => put::ids(bytes, read),
+        b'n' => fault_scripts::more(words, read),
+        b'i' => fault_scripts::ids(bytes, read),
         b'?' => ask::answer(bytes, words, times, reals, dists, read),
         _ => read.fails(b"no such word"),
     }

@@ -30,12 +30,10 @@ struct Asked {
 
 fn main() {
     let mut text = [0u8; 131072];
-    let mut lat_space = [0.0f64; 64];
-    let mut lon_space = [0.0f64; 64];
-    let lat: &mut [f64] = &mut lat_space;
-    let lon: &mut [f64] = &mut lon_space;
+    let mut lat = [0.0f64; 64];
+    let mut lon = [0.0f64; 64];
     let n = io::read_full(STDIN_FILENO, &mut text);
-    replay(lat, lon, &text[..n]);
+    replay(&mut lat, &mut lon, &text[..n]);
 }
 
 fn replay(lat: &mut [f64], lon: &mut [f64], text: &[u8]) {

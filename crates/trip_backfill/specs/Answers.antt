@@ -3,7 +3,7 @@ use Prim.Native.Nat.{ℕ, min}
 use mathlib.Core.List.{List}
 use lib.Ieee.{Float}
 use lib.ListN.{length}
-use Rattle.measure.specs.Answer.{Answer, refused, given}
+use Rattle.measure.specs.Answer.{Answer}
 use Rattle.answers.specs.Answers.{unlessRefused, orShort, unlessKept}
 use Rattle.tables.specs.Pools.{Pools, partOf}
 use Rattle.tables.specs.Bounds.{chartBounds}
@@ -13,13 +13,6 @@ use Rattle.geometry_checks.specs.Operations.{geometryCauses}
 use Rattle.row_distances.specs.Rows.{rowsOf, distsIn, marksIn}
 use Rattle.filled_trips.specs.Tables.{afterTrips}
 use Rattle.row_distances.specs.declared.row.Distance.{Distance}
-use Rattle.trip_backfill.specs.declared.trips.Backfilled.{Backfilled}
-use Rattle.trip_backfill.specs.declared.trips.Backfilled.the-variants.{Rows, Refused}
-
--- the number and the value of each case
-abbrev pub backfillAnswer : Backfilled → Answer ℕ
-backfillAnswer (Rows n) = given n
-backfillAnswer (Refused n) = refused n
 
 -- the distances of all stop times, as they are lent
 unfoldable pub lentRows : Pools → Tables → List Distance

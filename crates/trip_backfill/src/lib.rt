@@ -3,6 +3,5 @@
 mod copy; // columns copied into the outputs
 mod trips; // the trips, in table order
 
-pub use trips::Backfilled;
 pub use trips::backfill_trip;
 pub use trips::backfill_trips;

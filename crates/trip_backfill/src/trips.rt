@@ -4,6 +4,7 @@ use crate::copy::copy_marks;
 use crate::copy::count;
 use filled_trips::backfill_in;
 use geometry_checks::check_geometry;
+use line_answers::Backfilled;
 use one_trip::end_of;
 use tables::Bounds;
 use tables::Tables;
@@ -16,15 +17,8 @@ ghost use Rattle.tables.specs.Pools.{pools};
 ghost use Rattle.row_distances.specs.Rows.{rowsOf, distsIn, marksIn};
 ghost use Rattle.filled_trips.specs.Tables.{afterTrips};
 ghost use Rattle.one_trip.specs.One.{oneOf};
-ghost use Rattle.trip_backfill.specs.Answers.{backfillAnswer, filledOf, filledDists, filledMarks, roomAnswer, roomDists, roomMarks};
-
-// What backfill answers.
-pub enum Backfilled {
-    // how many rows are written, one for each stop time
-    Rows(usize),
-    // the number of the refusal
-    Refused(u32),
-}
+ghost use Rattle.line_answers.specs.Answers.{backfillAnswer};
+ghost use Rattle.trip_backfill.specs.Answers.{filledOf, filledDists, filledMarks, roomAnswer, roomDists, roomMarks};
 
 // The trips from a to before e.
 fn backfill_each(

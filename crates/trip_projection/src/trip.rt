@@ -1,14 +1,14 @@
 // The operation.
 use geometry_checks::check_leg;
+use line_answers::Projected;
 use tables::Bounds;
 use tables::LegAsked;
 use tables::Tables;
 use trip_ids::by_key;
-use trip_vertices::Projected;
 use trip_vertices::write;
 ghost use mathlib.Core.Path.{_≡_};
 ghost use Rattle.tables.specs.Pools.{pools};
-ghost use Rattle.trip_vertices.specs.Written.{projectAnswer};
+ghost use Rattle.line_answers.specs.Answers.{projectAnswer};
 ghost use Rattle.trip_projection.specs.Answers.{projectedOf, outputOf};
 
 // Writes the vertex of each stop time of the trip asked of, 4,294,967,295 for a stop without a position; a trip without a shape has a line of no

@@ -5,17 +5,10 @@ use lib.Ieee.{Float}
 use lib.ListN.{length}
 use Rattle.ids.specs.declared.lookup.Found.{Found}
 use Rattle.ids.specs.declared.lookup.Found.the-variants.{At, Nothing}
-use Rattle.measure.specs.Answer.{Answer, refused, given}
+use Rattle.measure.specs.Answer.{Answer}
 use Rattle.answers.specs.Answers.{unlessRefused, orShort, unlessKept}
 use Rattle.tables.specs.declared.lent.Tables.{Tables}
 use Rattle.trip_vertices.specs.Vertices.{tripVertices}
-use Rattle.trip_vertices.specs.declared.stops.Projected.{Projected}
-use Rattle.trip_vertices.specs.declared.stops.Projected.the-variants.{Rows, Refused}
-
--- the number and the value of each case
-abbrev pub projectAnswer : Projected → Answer ℕ
-projectAnswer (Rows n) = given n
-projectAnswer (Refused n) = refused n
 
 -- the vertices of the trip found; none where there is none
 abbrev pub foundVertices : List ℕ → List ℕ → List Float → Tables → Found → List ℕ

@@ -3,5 +3,4 @@
 mod mark; // mark.rt: one stop, and its vertex as a word
 mod stops; // stops.rt: the stops of a trip
 
-pub use stops::Projected;
 pub use stops::write;

@@ -1,6 +1,7 @@
 // The stops of a trip.
 use crate::mark::mark;
 use ids::Found;
+use line_answers::Projected;
 use tables::StopTimes;
 use tables::Stops;
 use tables::Tables;
@@ -12,17 +13,10 @@ ghost use mathlib.Core.List.{_++_};
 ghost use Prim.Native.Nat.{_≤_};
 ghost use lib.ListN.{length, drop};
 ghost use Rattle.lengths.specs.Line.{lineOf};
+ghost use Rattle.line_answers.specs.Answers.{projectAnswer};
 ghost use Rattle.trip_rows.specs.Rows.{rowPosition};
 ghost use Rattle.trip_vertices.specs.Vertices.{vertexWords};
-ghost use Rattle.trip_vertices.specs.Written.{projectAnswer, foundVertices, roomAnswer, roomOutput};
-
-// What a projection answers.
-pub enum Projected {
-    // how many rows are written, one for each stop time of the trip
-    Rows(usize),
-    // the number of the refusal
-    Refused(u32),
-}
+ghost use Rattle.trip_vertices.specs.Written.{foundVertices, roomAnswer, roomOutput};
 
 // Writes the vertices of the stops of n rows from `first` on.
 fn fill(

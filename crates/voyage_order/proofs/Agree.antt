@@ -13,7 +13,7 @@ use Rattle.stretches.specs.declared.spot.Spot.the-variants.{First, Stretch, Str
 use Rattle.ways.specs.declared.way.Way.{Way}
 use Rattle.lengths.specs.declared.line.Point.{Point}
 use Rattle.paths.specs.Path.{spotOf}
-use Rattle.legs.specs.Place.{placeOf, coordinates}
+use Rattle.legs.specs.Place.{placeOf}
 use Rattle.legs.specs.Walk.{walkOf, startOf, endOf, insideLeg}
 use Rattle.paths.specs.declared.path.Line.{Line}
 use Rattle.paths.specs.declared.status.Status.{Status}
@@ -27,7 +27,7 @@ use Rattle.timeline_order.proofs.Says.{Says, turn-says}
 use Rattle.voyages.specs.Record.{atStop, onLeg}
 use Rattle.voyages.specs.Voyage.{Leg, Approach, none, over, Pin, unplaced, pinned, Voyage}
 use Rattle.voyages.specs.Outcome.{walkLeg, atCall, underWayAt, approaching, towardsAt, atTurn, atPin, outcomeAt}
-use Rattle.voyages.specs.Position.{legNumbered, legPosition, callPosition, positionIn}
+use Rattle.voyage_order.specs.Position.{legNumbered, legPosition, callPosition, positionIn}
 use Rattle.voyages.specs.declared.record.Outcome.{Outcome}
 use Rattle.voyages.specs.declared.record.Outcome.the-variants.{At as Placed, Silence}
 use Rattle.voyage_order.specs.Agree.{Agreed, AgreedApproach, AgreedLegs, Agrees}

@@ -12,7 +12,7 @@ use lib.Ieee.{Float, le, binary64, fits}
 use lib.ListN.{length}
 use Rattle.floats.proofs.Signed.{le-or-lt}
 use Rattle.ids.proofs.ByteOrder.{clash}
-use Rattle.legs.specs.Order.{NoEarlier, turnOf}
+use Rattle.leg_order.specs.Order.{NoEarlier, turnOf}
 use Rattle.legs.specs.declared.place.Place.{Place}
 use Rattle.legs.specs.declared.place.Place.the-variants.{Call}
 use Rattle.paths.specs.declared.status.Status.{Status}
@@ -31,7 +31,7 @@ use Rattle.voyages.specs.Outcome.{walkLeg, atCall, underWayAt, approaching, app
 use Rattle.voyages.specs.declared.record.Outcome.{Outcome}
 use Rattle.voyages.specs.declared.record.Outcome.the-variants.{At as Placed, Silence}
 use Rattle.voyage_order.specs.Astern.{NotAstern, Ordered, OrderedApproach, Steady}
-use Rattle.legs.proofs.Turns.{walk-turn}
+use Rattle.leg_order.proofs.Turns.{walk-turn}
 
 -- ---- turns of outcomes
 

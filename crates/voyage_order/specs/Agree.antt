@@ -7,10 +7,10 @@ use mathlib.Core.Logic.{_⊎_}
 use lib.Dec.{T}
 use lib.Ieee.{Float, binary64, fits}
 use lib.ListN.{length}
-use Rattle.legs.specs.Place.{coordinates}
+use Rattle.leg_order.specs.Position.{coordinates}
 use Rattle.voyages.specs.Voyage.{Leg, Approach, none, over, unplaced, Voyage}
 use Rattle.voyages.specs.Outcome.{walkLeg}
-use Rattle.voyages.specs.Position.{legPosition, positionIn}
+use Rattle.voyage_order.specs.Position.{legPosition, positionIn}
 use Rattle.voyages.specs.declared.record.Outcome.{Outcome}
 use Rattle.voyages.specs.declared.record.Outcome.the-variants.{At, Silence}
 

@@ -3,7 +3,7 @@ use Prim.Native.Nat.{ℕ, suc, _+_, _<_}
 use lib.Dec.{T}
 use lib.Ieee.{Float, le, binary64, fits}
 use lib.ListN.{length}
-use Rattle.legs.specs.Order.{NoEarlier}
+use Rattle.leg_order.specs.Order.{NoEarlier}
 use Rattle.timeline_order.specs.Order.{Timely}
 use Rattle.voyages.specs.Voyage.{Leg, Approach, none, over, Voyage}
 use Rattle.voyages.specs.Outcome.{walkLeg}

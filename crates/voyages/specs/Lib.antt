@@ -1,5 +1,4 @@
--- `Record`: the estimate's record. `Voyage`: a sailing without its clock. `Outcome`: what it comes to at a clock. `Position`: the coordinates of its places.
+-- `Record`: the estimate's record. `Voyage`: a sailing without its clock. `Outcome`: what it comes to at a clock.
 pub mod Record
 pub mod Voyage
 pub mod Outcome
-pub mod Position

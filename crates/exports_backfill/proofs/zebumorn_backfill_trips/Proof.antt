@@ -8,8 +8,8 @@ use Rattle.exports_backfill.proofs.zebumorn_backfill_trips.Tie as tie
 backfill-trips-requires : tie.Need-backfill-trips-requires
 backfill-trips-requires c κs = tt
 
-number-requires : tie.Need-number-requires
-number-requires c κs = tt
+told-backfill-requires : tie.Need-told-backfill-requires
+told-backfill-requires c κs = tt
 
 same-length : tie.Need-same-length
 same-length c = search needs
@@ -18,7 +18,7 @@ same-length-2 : tie.Need-same-length-2
 same-length-2 c = search needs
 
 returns : tie.Need-returns
-returns c = let e = c .before .before .before .before .before .backfill-trips .ensures in (c .number .ensures ∙ ap numberOf (e .0), (e .1 .0, e .1 .1))
+returns c = let e = c .before .before .before .before .before .backfill-trips .ensures in (c .told-backfill .ensures ∙ ap numberOf (e .0), (e .1 .0, e .1 .1))
 
 pub zebumorn-backfill-trips-spec : {M : Type 1} → statement M
-zebumorn-backfill-trips-spec = tie.close (tie.spec backfill-trips-requires number-requires same-length same-length-2 returns)
+zebumorn-backfill-trips-spec = tie.close (tie.spec backfill-trips-requires told-backfill-requires same-length same-length-2 returns)

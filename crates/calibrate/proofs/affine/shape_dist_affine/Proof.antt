@@ -1,5 +1,4 @@
 -- `calibrate::affine::shape_dist_affine` meets its contract.
-use borrow.Author.Needs.{needs}
 use Rattle.answers.proofs.Told.{told, denied}
 use Rattle.calibrate.specs.Answers.{calibrationOf}
 use Rattle.calibrate.proofs.affine.shape_dist_affine.Statement.{statement}
@@ -18,23 +17,14 @@ returns c = rw (← c .before .before .chart .ensures, ← c .before .check-cali
 lent-affine-requires : tie.Need-lent-affine-requires
 lent-affine-requires c κs = tt
 
-enum-known-affine : tie.Need-enum-known-affine
-enum-known-affine c = search needs
-
-enum-told : tie.Need-enum-told
-enum-told c = search needs
+metres-answer-requires : tie.Need-metres-answer-requires
+metres-answer-requires c κs = tt
 
 returns-2 : tie.Need-returns-2
 unfolding calibrationOf
 returns-2 c =
-    let l = c .before .before .before .before in
-    rw (← l .before .before .chart .ensures, ← l .before .check-calibration .ensures, ← c .before .before .before .lent-affine .ensures, c .before .affine .given .1) (told _ _ (l .if1 .left))
-
-returns-3 : tie.Need-returns-3
-unfolding calibrationOf
-returns-3 c =
-    let l = c .before .before .before in
-    rw (← l .before .before .chart .ensures, ← l .before .check-calibration .ensures, ← c .before .before .lent-affine .ensures, c .enum-told .given .1) (told _ _ (l .if1 .left))
+    let l = c .before .before in
+    rw (← l .before .before .chart .ensures, ← l .before .check-calibration .ensures, ← c .before .lent-affine .ensures, c .metres-answer .ensures) (told _ _ (l .if1 .left))
 
 pub shape-dist-affine-spec : {M : Type 1} → statement M
-shape-dist-affine-spec = tie.close (tie.spec chart-requires check-calibration-requires returns lent-affine-requires enum-known-affine enum-told returns-2 returns-3)
+shape-dist-affine-spec = tie.close (tie.spec chart-requires check-calibration-requires returns lent-affine-requires metres-answer-requires returns-2)

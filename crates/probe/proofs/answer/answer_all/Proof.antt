@@ -13,6 +13,9 @@ Inv-loop queries bytes₀ words₀ times₀ reals₀ dists₀ c n text at₀ byt
 abbrev μ-loop : tie.MeasureT-loop
 μ-loop queries bytes₀ words₀ times₀ reals₀ dists₀ c n text at₀ bytes words times reals dists at = length text + 1 - at
 
+plain-ids-requires : tie.Need-plain-ids-requires Inv-loop μ-loop
+plain-ids-requires c κs = search needs
+
 case-of-requires : tie.Need-case-of-requires Inv-loop μ-loop
 case-of-requires c κs = search needs
 
@@ -40,11 +43,8 @@ part-s-start c = search needs
 part-s-end : tie.Need-part-s-end Inv-loop μ-loop
 part-s-end c = search needs
 
-query-of-requires : tie.Need-query-of-requires Inv-loop μ-loop
-query-of-requires c κs = search needs
-
-of-case-requires : tie.Need-of-case-requires Inv-loop μ-loop
-of-case-requires c κs = search needs
+answer-requires : tie.Need-answer-requires Inv-loop μ-loop
+answer-requires c κs = search needs
 
 add-at : tie.Need-add-at Inv-loop μ-loop
 add-at c = search needs
@@ -79,6 +79,7 @@ answer-all-spec =
     (tie.spec
     Inv-loop
     μ-loop
+    plain-ids-requires
     case-of-requires
     count-requires
     cast-part
@@ -88,8 +89,7 @@ answer-all-spec =
     sub-s
     part-s-start
     part-s-end
-    query-of-requires
-    of-case-requires
+    answer-requires
     add-at
     loop-less
     loop-again

@@ -1,0 +1,2 @@
+-- `Samples`: what samples that are lent tell.
+pub mod Samples
