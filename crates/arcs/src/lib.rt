@@ -2,6 +2,8 @@
 // kin, and the series, are in `maths`.
 //
 // Laws that a caller cites are in proofs/: Bounds (how large the answers can get), Fits (that they fit).
+#![tactic(auto)]
+
 mod arc; // arc.rt: atan for 0..1, atan2, asin
 
 pub use arc::{asin, atan, atan2};

@@ -11,7 +11,7 @@ use row_distances::Distance;
 use tables::{StopTimes, Stops};
 use trip_rows::row_position;
 
-#[derive(Drop)]
+#[derive(Clone, Copy)]
 pub enum Ends {
     Nothing,
     One(Sample),

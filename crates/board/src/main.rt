@@ -1,4 +1,6 @@
 // Reads one case and writes one line: the estimate, silence or a refusal. docs/CASES.md has the language.
+#![tactic(auto)]
+
 fn main() {
     let mut text_space = [0u8; 16384];
     let mut line_space = [0u8; 4096];

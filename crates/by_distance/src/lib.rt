@@ -4,6 +4,8 @@
 //
 // A span is chosen without the fraction, in `spans`; then it is walked. A calibration is two numbers a and b:
 // a + b·d metres for a feed's distance d.
+#![tactic(auto)]
+
 mod interpolate; // the position at a fraction of the way between two distances
 
 pub use interpolate::{interpolate_shape_by_dist, interpolate_shape_by_feed_dist, spot_over};

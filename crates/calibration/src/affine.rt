@@ -9,7 +9,7 @@ use running_lengths::length_to;
 use unit_scales::{Calibrated, between};
 
 // A stop's position, and its distance along the line in the feed's own unit.
-#[derive(Drop)]
+#[derive(Clone, Copy)]
 pub struct Sample {
     pub at: Point,
     pub dist: f64,

@@ -5,6 +5,8 @@
 //
 // The Rust is handed the lengths along the line, and reads two of them. Here they are summed again,
 // from the left.
+#![tactic(auto)]
+
 mod affine; // metres as a multiple of a distance and a start, from two samples
 mod samples; // samples in columns
 

@@ -9,7 +9,7 @@ use tables::{Sailing, Updates};
 use update_rows::is_set;
 
 // What is reported of a sailing, and the tables that its stops are looked up in.
-#[derive(Drop)]
+#[derive(Clone, Copy)]
 pub struct Reported {
     pub lookup: Lookup,
     pub updates: Updates,

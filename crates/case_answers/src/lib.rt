@@ -1,5 +1,7 @@
 // What the programs write of a case beside what they are asked for (docs/CASES.md): ids, that there is no answer, a refusal, and on standard error what was wrong. As
 // programs, its functions are proved safe and ending.
+#![tactic(auto)]
+
 use case_tables::limits;
 use case_words::{Form, Why};
 use libc::{STDERR_FILENO, STDOUT_FILENO};

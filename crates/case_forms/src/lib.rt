@@ -1,5 +1,7 @@
 // The forms of the case language but its queries (docs/CASES.md), each by its name: each line into the pools that a program lends. A line that is no form may leave a row
 // half written: then the text is no case, and nothing of it is read. As programs, its functions are proved safe and ending: what is read shows in what is answered.
+#![tactic(auto)]
+
 use case_lookups::read_lookup;
 use case_tables::{count, layout, put};
 use case_tokens::fields;

@@ -5,7 +5,7 @@ use case_digits::digit;
 use ids::Found;
 
 // A byte of an id, and how many bytes of the text stand for it: 0 where they stand for none.
-#[derive(Drop)]
+#[derive(Clone, Copy)]
 pub struct Code {
     pub byte: u8,
     pub width: usize,

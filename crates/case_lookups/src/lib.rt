@@ -1,5 +1,7 @@
 // The forms of the case language that say what rows are looked up by (docs/CASES.md): ids beside a record's own, aliases, line tokens and calendars. As programs, its
 // functions are proved safe and ending: what is read shows in what is answered.
+#![tactic(auto)]
+
 mod calendars; // calendars.rt: calendars, ranges and exceptions
 mod keys; // keys.rt: ids, aliases and line tokens
 

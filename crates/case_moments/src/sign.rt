@@ -4,7 +4,7 @@ ghost use Rattle.case_moments.specs.Moments.{with_sign, is_negative, moment_of, 
 
 use case_digits::{Natural, spelled};
 
-#[derive(Drop)]
+#[derive(Clone, Copy)]
 pub enum Signed {
     Is(i64),
     Nothing,

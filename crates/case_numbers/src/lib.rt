@@ -1,4 +1,6 @@
 // The numbers of the case language that have no sign, as its tokens spell them.
+#![tactic(auto)]
+
 mod numerals; // numerals.rt: counts, bits and days
 
 pub use numerals::{Whole, days, double, number, single};

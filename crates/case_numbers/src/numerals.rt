@@ -4,7 +4,7 @@ ghost use Rattle.case_numbers.specs.Numerals.{below_of, number_of, double_of, si
 
 use case_digits::{Natural, digit, spelled};
 
-#[derive(Drop)]
+#[derive(Clone, Copy)]
 pub enum Whole {
     Is(u32),
     Nothing,

@@ -6,7 +6,7 @@ use case_tokens::{field, fields};
 use ids::Found;
 use texts::same;
 
-#[derive(Drop)]
+#[derive(Clone, Copy)]
 pub enum Query {
     Sin(f64),
     Cos(f64),

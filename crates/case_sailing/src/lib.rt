@@ -1,5 +1,7 @@
 // The forms of the case language for a sailing's route, cancelling and updates (docs/CASES.md), each a line into the pools that a program lends. As programs, its functions
 // are proved safe and ending: what is read shows in what is answered.
+#![tactic(auto)]
+
 use case_moments::Signed;
 use case_tables::{layout, limits, put};
 use case_tokens::{field, fields};
@@ -26,7 +28,7 @@ fn is_named(s: &[u8]) -> bool {
 }
 
 // The field after the bracket that may stand next, or the field at fault.
-#[derive(Drop)]
+#[derive(Clone, Copy)]
 enum After {
     Field(u32),
     Fault(u32),

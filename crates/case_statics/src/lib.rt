@@ -1,5 +1,7 @@
 // The forms of the case language for stops, static trips with their stop times, and shapes with their points (docs/CASES.md), each a line into the pools that a program
 // lends. As programs, its functions are proved safe and ending: what is read shows in what is answered.
+#![tactic(auto)]
+
 use case_numbers::Whole;
 use case_tables::put::Put;
 use case_tables::{count, layout, limits, put};

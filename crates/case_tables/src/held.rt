@@ -1,7 +1,7 @@
 // How many rows of each table a case has. The counts stand in the words while a case is read.
 use crate::layout;
 
-#[derive(Drop)]
+#[derive(Clone, Copy)]
 pub struct Case {
     pub stops: u32,
     pub stopkeys: u32,

@@ -67,7 +67,7 @@ pub fn again(
 }
 
 // What comes of an id.
-#[derive(Drop)]
+#[derive(Clone, Copy)]
 pub enum Put {
     Done,
     // the text is no id, or one of too many bytes

@@ -2,7 +2,7 @@
 use case_tables::{layout, limits};
 use texts::same;
 
-#[derive(Drop)]
+#[derive(Clone, Copy)]
 pub enum Form {
     Feed,
     Trip,

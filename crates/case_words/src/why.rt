@@ -1,5 +1,5 @@
 // Why a line is no form, or a text no case.
-#[derive(Drop)]
+#[derive(Clone, Copy)]
 pub enum Why {
     // it is one
     Nothing,

@@ -5,14 +5,14 @@ use libc::STDIN_FILENO;
 const BYTES: u64 = 9223372036854775808;
 
 // Where standard input is: the chunk's bytes from `at` up to n are read, and not taken.
-#[derive(Drop)]
+#[derive(Clone, Copy)]
 pub struct Input {
     pub at: usize,
     pub n: usize,
 }
 
 // What is taken: a line's length, which the buffer may not hold, and where input is then. It is over where no line was left.
-#[derive(Drop)]
+#[derive(Clone, Copy)]
 pub struct Taken {
     pub length: usize,
     pub at: usize,

@@ -8,7 +8,7 @@ use case_tokens::{field, inside};
 use case_words::{Form, Why, form_of};
 
 // How far a text is read.
-#[derive(Drop)]
+#[derive(Clone, Copy)]
 pub struct Reading {
     // the chunk's bytes that are read and not taken
     pub at: usize,

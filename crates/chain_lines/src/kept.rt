@@ -8,7 +8,7 @@ use lengths::Point;
 use projection::Position;
 
 // How many stops are kept so far, and the last of them.
-#[derive(Drop)]
+#[derive(Clone, Copy)]
 pub struct Last {
     pub kept: usize,
     pub at: Point,

@@ -8,7 +8,7 @@ use tables::Trips;
 
 // Of `count` rows from `first` on, those with a sequence from `lo` to `hi`. Where the earlier end has the higher
 // sequence they are sailed against their order.
-#[derive(Drop)]
+#[derive(Clone, Copy)]
 pub struct Chain {
     pub first: u32,
     pub count: u32,

@@ -13,7 +13,7 @@ use lengths::Point;
 use tables::{StopTimes, Stops};
 
 // At a vertex, with so many rows ahead.
-#[derive(Drop)]
+#[derive(Clone, Copy)]
 pub struct Here {
     pub left: usize,
     pub at: Point,

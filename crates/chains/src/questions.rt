@@ -13,7 +13,7 @@ use stretches::{Drawn, Spot};
 use tables::{StopTimes, Stops};
 
 // A spot and its position.
-#[derive(Drop)]
+#[derive(Clone, Copy)]
 pub struct OnChain {
     pub spot: Spot,
     pub drawn: Drawn,

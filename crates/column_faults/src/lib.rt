@@ -1,4 +1,6 @@
 // The faults of one column that are about its rows or its numbers: too few or too many rows, a number too large, a moment out of time.
+#![tactic(auto)]
+
 mod size; // a column that is not so many rows of its pool
 mod value; // numbers and moments out of bounds
 

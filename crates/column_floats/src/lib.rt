@@ -2,6 +2,7 @@
 // requires anything of its caller.
 //
 // Laws that a caller cites are in proofs/: Finite (what is so of each row where a test is false).
+#![tactic(auto)]
 
 mod real; // positions off the globe; floats that are not finite
 

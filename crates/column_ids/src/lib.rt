@@ -3,6 +3,7 @@
 //
 // The definitions that the contracts cite are in specs/. The laws that a caller cites are in
 // proofs/Passed (what is so of each id where a test is false).
+#![tactic(auto)]
 
 mod text; // bytes that are not printable; empty ids
 

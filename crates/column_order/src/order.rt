@@ -11,7 +11,7 @@ use columns::bit;
 use ids::{IdColumn, Order, Span, cell, compare, id};
 
 // What a table's rows ascend by. Columns of numbers are spans of the words.
-#[derive(Drop)]
+#[derive(Clone, Copy)]
 pub enum Key {
     // A number.
     Word(Span),

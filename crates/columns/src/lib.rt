@@ -5,6 +5,7 @@
 //
 // The definitions that the contracts cite are in specs/. Laws that a caller cites are in proofs/:
 // Passed (what is so of each row where a test is false) and Scan (how a loop over rows shows it).
+#![tactic(auto)]
 
 mod number; // numbers that are too large, or not in a range; rows that end past a table's end
 mod row; // which rows are read, which of them count, and what a column of flags has in a row

@@ -5,7 +5,7 @@ ghost use Rattle.courses.specs.Course.{shape_part};
 use tables::{Points, Shapes, StopTimes, Stops, Trips};
 use trip_rows::{shape_column, shape_span};
 
-#[derive(Drop)]
+#[derive(Clone, Copy)]
 pub struct Course {
     pub trips: Trips,
     pub times: StopTimes,

@@ -1,5 +1,7 @@
 // The tables that a trip's course is read from, with the line of a shape, flags and distances of their columns. Which rows are samples stands in `sample_rows`. Reads
 // are total, as in `ids`: past a pool's end a float is NaN.
+#![tactic(auto)]
+
 mod course; // the tables that a trip's course is read from, and its line
 mod flags; // flags of a column
 mod read; // distances of a column

@@ -3,6 +3,8 @@
 //
 // Laws that a caller cites are in proofs/: Weekdays (a weekday is below 7, and the next day has the next), Apart (what `delta` answers is
 // never negative: it is the difference without its sign), Signed (what fits the machine's signed numbers).
+#![tactic(auto)]
+
 mod service; // a moment of local time as a service day, and how far two counts of seconds are apart
 mod week; // a day's weekday
 

@@ -3,7 +3,7 @@
 ghost use Rattle.std.specs.Prelude.{◌≡◌};
 ghost use Rattle.day_counts.specs.Service.{service_day_of, Splits, Near, apart};
 
-#[derive(Drop)]
+#[derive(Clone, Copy)]
 pub struct ServiceDay {
     // as read_date counts them
     pub day: i64,

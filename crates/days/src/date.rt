@@ -7,7 +7,7 @@ ghost use Rattle.days.specs.Read.{read_date_of};
 use gregorian::{days_before_month, days_before_year, is_leap, month_days};
 
 // What eight digits say.
-#[derive(Drop)]
+#[derive(Clone, Copy)]
 pub enum ReadDate {
     // the day's number
     Day(i64),

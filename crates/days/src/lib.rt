@@ -2,6 +2,8 @@
 // not here.
 //
 // Laws that a caller cites are in proofs/: Ascending (dates are in the order of their days), Next (from a date to the next it is one day).
+#![tactic(auto)]
+
 mod date; // a date's digits as a day number
 
 pub use date::{ReadDate, day_of, is_date, ordinal_of, read_date};

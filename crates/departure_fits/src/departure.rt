@@ -5,14 +5,14 @@ ghost use Rattle.departure_fits.specs.Departures.{since, away, near, nearer, if_
 use day_counts::delta;
 
 // The moment asked of, in a service day: the day, as `days::ordinal_of` counts it, and the seconds from its beginning.
-#[derive(Drop)]
+#[derive(Clone, Copy)]
 pub struct Count {
     pub day: u32,
     pub second: u32,
 }
 
 // A departure and the count of seconds that it is compared with, or none.
-#[derive(Drop)]
+#[derive(Clone, Copy)]
 pub enum Fit {
     Never,
     By(u32, u32),

@@ -7,7 +7,7 @@ use legs::Place;
 use voyages::{Estimate, Outcome};
 
 // What an estimate answers.
-#[derive(Drop)]
+#[derive(Clone, Copy)]
 pub enum Estimated {
     // the estimate, and the place that its coordinates are drawn from
     At(Estimate, Place),

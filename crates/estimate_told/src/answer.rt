@@ -14,7 +14,7 @@ use ways::Way;
 // shape, 2 the stops between, 3 a straight line. `way`: 1 with the vertices, 2 against them. A number that its
 // kind does not have is 0.
 #[repr(C)]
-#[derive(Drop)]
+#[derive(Clone, Copy)]
 pub struct PlaceTold {
     pub fraction: f64,
     pub vertex: u64,
@@ -28,7 +28,7 @@ pub struct PlaceTold {
 // other number is 0 without an estimate. `status`: 1 stopped at, 2 incoming at, 3 on the shape, 4 on the stop
 // chain, 5 in transit to. `bears`: 1 where there is a bearing.
 #[repr(C)]
-#[derive(Drop)]
+#[derive(Clone, Copy)]
 pub struct Told {
     pub lat: f64,
     pub lon: f64,

@@ -1,4 +1,6 @@
 // The C names under which tools/oracle calls backfill. Each says no more than the function that it calls: 0, or the refusal's number.
+#![tactic(auto)]
+
 ghost use Rattle.std.specs.Prelude.{◌≡◌};
 ghost use Rattle.measure.specs.Answer.{number_of};
 ghost use Rattle.tables.specs.Pools.{pools};

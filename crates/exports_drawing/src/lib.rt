@@ -1,4 +1,6 @@
 // The C names under which tools/oracle calls leg drawing. Each says no more than the function that it calls.
+#![tactic(auto)]
+
 ghost use Rattle.std.specs.Prelude.{◌≡◌};
 ghost use Rattle.measure.specs.Answer.{number_of, value_or};
 ghost use Rattle.tables.specs.Pools.{pools};

@@ -1,4 +1,6 @@
 // The C name of the estimate. It answers what `estimate::estimate` does, as one struct of numbers; nothing that is lent is written.
+#![tactic(auto)]
+
 ghost use Rattle.std.specs.Prelude.{◌≡◌};
 ghost use Rattle.tables.specs.Pools.{pools};
 ghost use Rattle.estimate.specs.Answers.{estimate_of};

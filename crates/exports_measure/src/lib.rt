@@ -1,4 +1,6 @@
 // The C names of the measure: the length and the bearing of the way between two positions. Each answers what the function that it calls does.
+#![tactic(auto)]
+
 ghost use Rattle.std.specs.Prelude.{◌≡◌};
 ghost use Rattle.measure.specs.Answer.{answer_of, number_of, value_or};
 ghost use Rattle.measure.specs.Measure.{measured, bearing_of};

@@ -10,7 +10,7 @@ use ids::{IdColumn, Span};
 use tables::{Mark, Pool, bytes_of, dists_of, reals_of, times_of, words_of};
 
 // A fault that a column or a count may have.
-#[derive(Drop)]
+#[derive(Clone, Copy)]
 pub enum Test {
     // a column runs past its pool, or has not so many rows
     Column(Pool, Span, u32),

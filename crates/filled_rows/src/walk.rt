@@ -26,7 +26,7 @@ fn length_on(lat: &[f64], lon: &[f64], from: usize, sum: f64, to: usize) -> f64
 }
 
 // Where the cursor is after a stop, the length to there, and the stop's row.
-#[derive(Drop)]
+#[derive(Clone, Copy)]
 pub(crate) struct Walked {
     pub at: usize,
     pub sum: f64,

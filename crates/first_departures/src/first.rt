@@ -6,7 +6,7 @@ use tables::Updates;
 use update_rows::{is_timed, moment_or};
 
 // A moment, in seconds, or none.
-#[derive(Drop)]
+#[derive(Clone, Copy)]
 pub enum Moment {
     At(u64),
     Nothing,

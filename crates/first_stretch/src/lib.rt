@@ -3,6 +3,8 @@
 // `lengths`. Nothing is required: a NaN in a length or a target goes the way that the Rust's tests send it.
 //
 // No length is stored: the sum is carried in the loop, from the left, and stops at the stretch found.
+#![tactic(auto)]
+
 mod search; // the first stretch that a target meets
 
 pub use search::stretch_at;

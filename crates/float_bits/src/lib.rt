@@ -1,4 +1,6 @@
 // Floats and their bit patterns, for any pattern and any float, and the cast to f32, each equal to a definition.
+#![tactic(auto)]
+
 mod bits; // bits.rt: floats from and to their bit patterns
 mod single; // single.rt: narrow, an f64 as the nearest f32
 

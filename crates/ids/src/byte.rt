@@ -3,7 +3,7 @@ ghost use Rattle.std.specs.Prelude.{◌≡◌};
 ghost use Rattle.ids.specs.Bytes.{is_digit, is_alnum, is_of, upper_of, fold_of};
 
 // A kind of bytes, of which a text has a run.
-#[derive(Drop)]
+#[derive(Clone, Copy)]
 pub enum Kind {
     // This byte alone.
     Byte(u8),

@@ -4,6 +4,7 @@
 // The definitions that the contracts cite are in specs/. Laws that a caller cites are in proofs/:
 // ByteOrder (the order is total), Search (what the first and the last number that passes a test are)
 // and Rows (which row is found, and that neighbours suffice for the order).
+#![tactic(auto)]
 
 pub mod order; // texts by their bytes: which of two comes first
 pub mod pool; // columns of numbers and of ids in the pools, read at any index

@@ -7,7 +7,7 @@ use crate::order::{Order, compare};
 use crate::pool::{IdColumn, id};
 
 // Where something was found.
-#[derive(Drop)]
+#[derive(Clone, Copy)]
 pub enum Found {
     // At this place: a row of a table, a byte of a text.
     At(usize),

@@ -3,7 +3,7 @@ ghost use Rattle.std.specs.Prelude.{◌≡◌};
 ghost use Rattle.ids.specs.Cmp.{cmp};
 
 // How the first of two texts stands to the second.
-#[derive(Drop)]
+#[derive(Clone, Copy)]
 pub enum Order {
     // It comes before it.
     Less,

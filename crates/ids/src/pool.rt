@@ -7,7 +7,7 @@ ghost use Rattle.ids.specs.Pool.{cell_of, id_of};
 
 // A column: n elements from `at` on in a pool.
 #[repr(C)]
-#[derive(Drop)]
+#[derive(Clone, Copy)]
 pub struct Span {
     pub at: u32,
     pub n: u32,
@@ -15,7 +15,7 @@ pub struct Span {
 
 // A column of ids. Row k's is lens[k] bytes from starts[k] on; there are as many as starts has.
 #[repr(C)]
-#[derive(Drop)]
+#[derive(Clone, Copy)]
 pub struct IdColumn {
     pub starts: Span,
     pub lens: Span,

@@ -16,7 +16,7 @@ use tables::Points;
 use trip_rows::real;
 
 // The last point drawn, and the row of the next.
-#[derive(Drop)]
+#[derive(Clone, Copy)]
 pub(crate) struct Drawn {
     pub last: Position,
     pub at: usize,

@@ -3,7 +3,7 @@ use ids::Span;
 use tables::Points;
 
 #[repr(C)]
-#[derive(Drop)]
+#[derive(Clone, Copy)]
 pub struct JourneyLegs {
     // whether it is a walk; else it is transit
     pub walk: Span,

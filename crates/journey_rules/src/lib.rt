@@ -1,4 +1,6 @@
 // What is lent of a journey, and the rules of it.
+#![tactic(auto)]
+
 mod lent; // lent.rt: what is lent
 mod rules; // rules.rt: the rules of what is lent
 

@@ -13,7 +13,7 @@ use reach::is_beyond;
 use sphere_lengths::way;
 use vertices_within::{aside, far};
 
-#[derive(Drop)]
+#[derive(Clone, Copy)]
 pub struct Least {
     // The least distance so far.
     pub best: f64,

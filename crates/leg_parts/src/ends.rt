@@ -2,7 +2,7 @@
 ghost use Rattle.std.specs.Prelude.{◌≡◌, min};
 ghost use Rattle.leg_parts.specs.Parts.{ends_of};
 
-#[derive(Drop)]
+#[derive(Clone, Copy)]
 pub struct Ends {
     pub board: u32,
     pub alight: u32,

@@ -2,6 +2,8 @@
 // position with bearing, and the status. It ports `interpolate_segment` of the Rust's rt/estimate.rs, by
 // value: what reads lines and tables stands in the crates above. Lines are lists of points in specs/;
 // nothing is required.
+#![tactic(auto)]
+
 mod place; // where on a leg
 mod walk; // what a walk gives
 

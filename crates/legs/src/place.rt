@@ -6,7 +6,7 @@ use paths::Line;
 use stretches::Spot;
 use ways::Way;
 
-#[derive(Drop)]
+#[derive(Clone, Copy)]
 pub enum Place {
     // At this call.
     Call(u32),

@@ -8,7 +8,7 @@ use measure::bearing;
 use paths::{Path, Status, path_kind, path_status, path_way};
 use stretches::{Drawn, Spot};
 
-#[derive(Drop)]
+#[derive(Clone, Copy)]
 pub struct Walked {
     pub place: Place,
     pub drawn: Drawn,

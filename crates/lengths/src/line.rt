@@ -5,7 +5,7 @@ ghost use Rattle.lengths.specs.Line.{line_of, metres_of, nowhere};
 use sphere_lengths::haversine;
 
 // A position, in degrees: a vertex's or a stop's.
-#[derive(Drop)]
+#[derive(Clone, Copy)]
 pub struct Point {
     pub lat: f64,
     pub lon: f64,

@@ -4,7 +4,7 @@ ghost use Rattle.measure.specs.Answer.{number_of};
 ghost use Rattle.line_answers.specs.Answers.{backfill_answer};
 
 // What backfill answers.
-#[derive(Drop)]
+#[derive(Clone, Copy)]
 pub enum Backfilled {
     // how many rows are written, one for each stop time
     Rows(usize),

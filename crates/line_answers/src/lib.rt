@@ -1,5 +1,7 @@
 // What the operations on a line and on stops answer: a value, none where there is none, or a refusal's number. Which of them the lent tables have stands in `calibrate`,
 // `interpolate`, `stop_projection`, `trip_vertices` and `trip_backfill`.
+#![tactic(auto)]
+
 mod filled; // filled.rt: what backfill answers, and its refusal's number
 mod metres; // metres.rt: the metres that samples' distances stand for
 mod position; // position.rt: the position at a fraction

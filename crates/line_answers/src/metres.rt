@@ -6,7 +6,7 @@ ghost use Rattle.line_answers.specs.Answers.{calibration_answer};
 use unit_scales::{Affine, Calibrated};
 
 // What `shape_dist_affine` answers.
-#[derive(Drop)]
+#[derive(Clone, Copy)]
 pub enum Calibration {
     // a distance d stands for a + b·d metres
     By(Affine),

@@ -2,7 +2,7 @@
 use stretches::Drawn;
 
 // What an interpolation answers.
-#[derive(Drop)]
+#[derive(Clone, Copy)]
 pub enum Interpolation {
     // this position, and the bearing there
     At(Drawn),

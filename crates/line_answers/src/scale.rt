@@ -1,7 +1,7 @@
 // The unit that a ratio is near.
 
 // What `snap_unit_scale` answers.
-#[derive(Drop)]
+#[derive(Clone, Copy)]
 pub enum Snapped {
     // the metres of a unit of distance
     Scale(f64),

@@ -2,7 +2,7 @@
 use projection::Step;
 
 // What a step answers.
-#[derive(Drop)]
+#[derive(Clone, Copy)]
 pub enum Stepped {
     // the next cursor, and the vertex of the stop
     To(Step),

@@ -1,7 +1,7 @@
 // A trip's stops.
 
 // What a projection answers.
-#[derive(Drop)]
+#[derive(Clone, Copy)]
 pub enum Projected {
     // how many rows are written, one for each stop time of the trip
     Rows(usize),

@@ -1,4 +1,6 @@
 // The row of a line whose trip's first departure fits a moment best.
+#![tactic(auto)]
+
 mod line; // a line's rows, and the one that fits best
 
 pub use line::{best_of, first_on_line, fit_at, on_line};

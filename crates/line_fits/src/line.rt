@@ -68,7 +68,7 @@ pub fn first_on_line(bytes: &[u8], words: &[u32], p: Plan, token: &[u8]) -> usiz
 }
 
 // The row found so far, and how far away it is.
-#[derive(Drop)]
+#[derive(Clone, Copy)]
 struct Best {
     at: Found,
     away: u64,

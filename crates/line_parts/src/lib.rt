@@ -2,6 +2,8 @@
 // columns, as in `lengths`. Nothing is required: a vertex that a line has not reads as NaN.
 //
 // No length is stored: the sum is carried in the loop, from the left.
+#![tactic(auto)]
+
 mod part; // a part of a line, its vertices and its length
 
 pub use part::{Part, less, next_point, part_length, point, stretch_length, whole};

@@ -7,7 +7,7 @@ ghost use Rattle.line_parts.specs.Part.{stretch_length, part_length, whole_of};
 use lengths::{Point, metres, vertex, vertices};
 
 // Both vertices are of the part. Where `last` is not above `first` it has no stretch.
-#[derive(Drop)]
+#[derive(Clone, Copy)]
 pub struct Part {
     pub first: usize,
     pub last: usize,

@@ -8,7 +8,7 @@ use stretches::Interpolated;
 use tables::{Along, dists_of, reals_of};
 
 // What is asked of a line.
-#[derive(Drop)]
+#[derive(Clone, Copy)]
 pub enum Question {
     // the place at a fraction of the way between two distances in metres: the numbers are the fraction
     ByDistance,

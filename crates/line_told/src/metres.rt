@@ -8,7 +8,7 @@ use line_answers::Calibration;
 // A distance d stands for shift + scale·d metres. `refusal`: document 01's number, or 0. `answered`: 1 with a
 // calibration, else 0, and so are its numbers.
 #[repr(C)]
-#[derive(Drop)]
+#[derive(Clone, Copy)]
 pub struct MetresTold {
     pub shift: f64,
     pub scale: f64,

@@ -7,7 +7,7 @@ use line_answers::Interpolation;
 
 // `refusal`: document 01's number, or 0. `answered`: 1 with a position, else 0, and so are its numbers.
 #[repr(C)]
-#[derive(Drop)]
+#[derive(Clone, Copy)]
 pub struct PositionTold {
     pub lat: f64,
     pub lon: f64,

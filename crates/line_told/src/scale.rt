@@ -7,7 +7,7 @@ use line_answers::Snapped;
 
 // `refusal`: document 01's number, or 0. `answered`: 1 with a scale, else 0, and so is the scale.
 #[repr(C)]
-#[derive(Drop)]
+#[derive(Clone, Copy)]
 pub struct ScaleTold {
     pub scale: f64,
     pub answered: u32,

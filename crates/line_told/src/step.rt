@@ -7,7 +7,7 @@ use line_answers::Stepped;
 
 // `refusal`: document 01's number, or 0. Where it is refused, the next cursor and the vertex are 0.
 #[repr(C)]
-#[derive(Drop)]
+#[derive(Clone, Copy)]
 pub struct StepTold {
     pub cursor: usize,
     pub vertex: usize,

@@ -7,7 +7,7 @@ use line_answers::Projected;
 
 // `refusal`: document 01's number, or 0. `rows`: how many rows of the output are written; 0 where it is refused.
 #[repr(C)]
-#[derive(Drop)]
+#[derive(Clone, Copy)]
 pub struct RowsTold {
     pub rows: usize,
     pub refusal: u32,

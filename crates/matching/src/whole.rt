@@ -13,7 +13,7 @@ use trip_tails::by_tail;
 use trip_times::by_token;
 
 // What a trip is found in by its id.
-#[derive(Drop)]
+#[derive(Clone, Copy)]
 pub struct Named {
     pub tripkeys: IdRows,
     pub aliases: Aliases,

@@ -9,7 +9,7 @@ use globe::both_on_globe;
 use sphere_lengths::haversine;
 
 // The answer of a measure.
-#[derive(Drop)]
+#[derive(Clone, Copy)]
 pub enum Measured {
     // The length in metres, or the bearing in degrees.
     Value(f64),

@@ -3,6 +3,8 @@
 //
 // Published: `haversine_m` and `bearing_deg`, with refusal 3. `bearing` is the same for callers that
 // have tested their positions.
+#![tactic(auto)]
+
 mod answer; // answer.rt: haversine_m, bearing_deg
 mod sphere; // sphere.rt: bearing
 

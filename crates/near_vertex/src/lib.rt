@@ -7,6 +7,8 @@
 // stops at the vertex asked for (`vertices_within`). The definitions
 // that the contracts cite are in specs/. Laws that a caller cites are in proofs/Range: the vertex is
 // one of the line's, and not before the one that the search begins at.
+#![tactic(auto)]
+
 mod forward; // the first vertex, or the last, near a stop
 
 pub use forward::{forward_last_index, forward_shape_index};

@@ -1,5 +1,7 @@
 // The C names under which tools/oracle calls the functions that it holds beside the Rust. Each says
 // no more than the function that it calls.
+#![tactic(auto)]
+
 ghost use Rattle.std.specs.Prelude.{◌≡◌};
 ghost use Rattle.std.specs.Float.Ieee.{is_nan};
 ghost use Rattle.ieee.specs.Number.{abs_of, max_of, clamp01_of, least_of};

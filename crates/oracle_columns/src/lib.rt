@@ -1,4 +1,6 @@
 // The C names under which tools/oracle times the passes over columns. Each says no more than the pass that it calls.
+#![tactic(auto)]
+
 ghost use Rattle.std.specs.Prelude.{◌-◌, min, ◌≡◌, length};
 ghost use Rattle.columns.specs.Number.{ends_past_at, reaches_at};
 ghost use Rattle.column_floats.specs.Real.{not_finite_at, off_globe_at};

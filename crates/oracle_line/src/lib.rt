@@ -1,5 +1,7 @@
 // The C names under which tools/oracle holds lengths, the projection, calibration and places along a line beside the Rust. Each says no
 // more than the function that it calls.
+#![tactic(auto)]
+
 mod drawn; // places along a line
 
 ghost use Rattle.std.specs.Prelude.{◌≡◌};

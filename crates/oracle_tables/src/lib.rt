@@ -1,5 +1,7 @@
 // The C names under which tools/oracle holds what is read from the tables beside the Rust. Where each column
 // stands is said by the words themselves: their first 28 are the starts and counts of 14 columns.
+#![tactic(auto)]
+
 ghost use Rattle.std.specs.Prelude.{◌≡◌};
 ghost use Rattle.trip_samples.specs.Trip.{trip_affine};
 ghost use Rattle.oracle_line.specs.Asked.{is_by, scale_or, start_or};

@@ -10,21 +10,21 @@ use unit_scales::Calibrated;
 use ways::Way;
 
 // An end of a leg: a call, or the static stop before the first call.
-#[derive(Drop)]
+#[derive(Clone, Copy)]
 pub struct End {
     pub sequence: u32,
     pub at: Point,
 }
 
 // The distance along the shape that the timetable has for a stop, in the feed's own unit.
-#[derive(Drop)]
+#[derive(Clone, Copy)]
 pub enum Mark {
     At(f32),
     Nothing,
 }
 
 // How a leg is drawn, chosen without the fraction.
-#[derive(Drop)]
+#[derive(Clone, Copy)]
 pub enum Path {
     // Along the trip's shape, between two distances.
     ByDistance(Span),
@@ -37,7 +37,7 @@ pub enum Path {
 }
 
 // What a place's vertices are counted over.
-#[derive(Drop)]
+#[derive(Clone, Copy)]
 pub enum Line {
     // The whole shape.
     Shape,

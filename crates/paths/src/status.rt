@@ -1,5 +1,5 @@
 // What is told of a ferry beside her position.
-#[derive(Drop)]
+#[derive(Clone, Copy)]
 pub enum Status {
     StoppedAt,
     IncomingAt,

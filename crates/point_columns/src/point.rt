@@ -6,7 +6,7 @@ use crate::column::put_row;
 use projection::Position;
 
 // What an operation that draws answers.
-#[derive(Drop)]
+#[derive(Clone, Copy)]
 pub enum Drawing {
     // how many points are written
     Points(usize),

@@ -3,6 +3,8 @@
 // Nothing is required of the values.
 //
 // The route and the way that it is sailed are chosen without the fraction, in `stop_routes`; then it is walked.
+#![tactic(auto)]
+
 mod polyline; // the part of a line between two stops
 
 pub use polyline::{interpolate_polyline, spot_along};

@@ -1,4 +1,6 @@
 // Answers the queries of a case, one line each, in their order: reads the whole case, then answers each query from it. docs/CASES.md has the language.
+#![tactic(auto)]
+
 mod answer; // answer.rt: each line of queries
 
 use crate::answer::answer_all;

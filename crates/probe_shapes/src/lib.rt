@@ -1,4 +1,6 @@
 // The probe's answers about shapes, and about static trips on them. As programs, its functions are proved safe and ending.
+#![tactic(auto)]
+
 mod along; // along.rt: places along a shape, units, calibration
 mod filled; // filled.rt: the distances of a trip after backfill
 mod leg; // leg.rt: the points of a leg

@@ -8,20 +8,20 @@ use ids::Found;
 use lengths::Point;
 use near_vertex::forward_shape_index;
 
-#[derive(Drop)]
+#[derive(Clone, Copy)]
 pub struct Cursor {
     pub at: usize,
 }
 
 // The next cursor, and the vertex of the stop.
-#[derive(Drop)]
+#[derive(Clone, Copy)]
 pub struct Step {
     pub cursor: Cursor,
     pub vertex: usize,
 }
 
 // Where a stop is.
-#[derive(Drop)]
+#[derive(Clone, Copy)]
 pub enum Position {
     // At this point.
     Known(Point),
@@ -30,7 +30,7 @@ pub enum Position {
 }
 
 // The next cursor, and the vertex of the stop if it has one.
-#[derive(Drop)]
+#[derive(Clone, Copy)]
 pub struct Passed {
     pub cursor: Cursor,
     pub vertex: Found,

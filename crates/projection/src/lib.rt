@@ -5,6 +5,8 @@
 // The definitions that the contracts cite are in specs/. Laws that a caller cites are in proofs/: Order
 // (each stop with a position gets a vertex, in range and none before an earlier stop's) and Split (a
 // trip split after any stop projects as the whole).
+#![tactic(auto)]
+
 mod cursor; // where a projection has got to, handed a stop and handed back
 
 pub use cursor::{Cursor, Passed, Position, Step};

@@ -2,6 +2,8 @@
 // beside it. `roots` takes an f64 apart.
 //
 // Laws that a caller cites are in proofs/: Bits (the root's bits and sizes).
+#![tactic(auto)]
+
 mod digits; // the digits of a root, and the f64 that is built of them
 
 pub use digits::{quick, slow};

@@ -5,6 +5,8 @@
 // The limit is a guess that is tried: `limit` answers it only where `low`, the least way that the arc
 // sine's stand-in can make of the guess, is more than the bound. The law behind it is in
 // proofs/Low.antt.
+#![tactic(auto)]
+
 mod far; // the limit for a bound, and whether something is past it
 
 pub use far::{is_beyond, limit};

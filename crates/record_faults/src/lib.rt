@@ -1,5 +1,7 @@
 // What backfill may turn a trip's records down for, found where they lie: a stop that is not in the table, a distance that is not finite.
 // The loop over the slice of structs is a walk by hand; what one record adds is a function of its own.
+#![tactic(auto)]
+
 ghost use Rattle.std.specs.Prelude.{◌≡◌};
 ghost use Rattle.column_floats.specs.Real.{is_finite};
 ghost use Rattle.record_faults.specs.Faults.{fold, outside_of, infinite_of, step_of};
@@ -7,7 +9,7 @@ ghost use Rattle.record_faults.specs.Faults.{fold, outside_of, infinite_of, step
 use stop_record::StopTime;
 
 // Each is 1 where some record is at fault, and else 0.
-#[derive(Drop)]
+#[derive(Clone, Copy)]
 pub struct Faults {
     pub outside: u32,
     pub infinite: u32,

@@ -1,5 +1,7 @@
 // What backfill of a trip's records is refused for: the first refusal of what is lent beside the records, and of that with the records' faults and
 // the columns' rows.
+#![tactic(auto)]
+
 ghost use Rattle.std.specs.Prelude.{◌≡◌, []};
 ghost use Rattle.tables.specs.Pools.{pools};
 ghost use Rattle.tables.specs.Bounds.{chart_bounds};
@@ -11,7 +13,7 @@ use tables::{Bounds, Points, Stops};
 
 // The stops, and the points of the trip's shape.
 #[repr(C)]
-#[derive(Drop)]
+#[derive(Clone, Copy)]
 pub struct Lent {
     pub stops: Stops,
     pub line: Points,

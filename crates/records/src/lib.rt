@@ -1,5 +1,7 @@
 // A trip's stop times as records: a slice of structs. Its functions read the records where they lie, as columns, and write the distances that
 // columns have an answer for. The proofs of those that are lent the slice are walks by hand; what is done with one record is in `stop_record`.
+#![tactic(auto)]
+
 ghost use Rattle.std.specs.Prelude.{◌≡◌, ◌<◌, ◌≤◌, length};
 ghost use Rattle.records.specs.Records.{fill_row, stop_col, dist_col, known_col};
 ghost use Rattle.records.specs.Rows.{each, map_to};

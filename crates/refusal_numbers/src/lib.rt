@@ -1,4 +1,6 @@
 // Answers of the operations over tables as numbers, for C: each is told as the refusal's number, or 0 with the value written to what the caller lends. It calls no operation.
+#![tactic(auto)]
+
 mod date; // date.rt: a date
 mod drawing; // drawing.rt: the points of a leg or a journey
 mod service; // service.rt: whether a service runs

@@ -6,7 +6,7 @@ ghost use Rattle.quick_roots.specs.Built.{built_of};
 use inverse_root::inverse;
 use quick_roots::{quick, slow};
 
-#[derive(Drop)]
+#[derive(Clone, Copy)]
 struct Norm {
     m: u64,
     e: u64,

@@ -4,6 +4,8 @@
 //
 // A route is chosen without the fraction; then it is walked. Its length is kept with it, so that it is
 // summed once.
+#![tactic(auto)]
+
 mod route; // a part of a line with its length, walked by a fraction
 
 pub use route::{Route, along, interpolate_along_vertices, route_of};

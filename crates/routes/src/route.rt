@@ -9,7 +9,7 @@ use line_parts::{Part, part_length, whole};
 use stretches::{Interpolated, Spot, draw};
 
 // A part, and its length in metres.
-#[derive(Drop)]
+#[derive(Clone, Copy)]
 pub struct Route {
     pub part: Part,
     pub total: f64,

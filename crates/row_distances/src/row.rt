@@ -6,14 +6,14 @@ use float_bits::narrow;
 use unit_scales::Affine;
 
 // A distance, and a byte that is not zero where there is one.
-#[derive(Drop)]
+#[derive(Clone, Copy)]
 pub struct Distance {
     pub dist: f32,
     pub measured: u8,
 }
 
 // What a trip's missing distances are written in.
-#[derive(Drop)]
+#[derive(Clone, Copy)]
 pub enum Unit {
     Metres,
     // The feed's own: a distance d stands for a + b·d metres.

@@ -8,7 +8,7 @@ use columns::bit;
 use ids::{IdColumn, Order, Span, cell, compare, id};
 
 // The columns that a row is found by.
-#[derive(Drop)]
+#[derive(Clone, Copy)]
 pub enum Rows {
     // A feed, then a service.
     Ranges(IdColumn, IdColumn),

@@ -3,6 +3,8 @@
 //
 // Laws that a caller cites are in proofs/Running: the Rust's list of lengths has the length to each vertex; from one to the next it grows by the
 // stretch between them.
+#![tactic(auto)]
+
 mod length; // the length along a line to one of its vertices
 
 pub use length::length_to;

@@ -8,14 +8,14 @@ use std::num::f32_to_f64_with_nan;
 use ways::{Way, turned};
 
 // `lo` is the lower, where both are numbers.
-#[derive(Drop)]
+#[derive(Clone, Copy)]
 pub struct Span {
     pub lo: f64,
     pub hi: f64,
     pub way: Way,
 }
 
-#[derive(Drop)]
+#[derive(Clone, Copy)]
 pub enum Spanned {
     // Half a metre at least; NaN counts as that.
     Over(Span),

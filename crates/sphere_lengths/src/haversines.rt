@@ -6,7 +6,7 @@ ghost use Rattle.sphere_lengths.specs.Length.{haversin_of, way_of, haversine_of}
 use maths::{cos, radians, sin};
 
 // The globe, by its radius.
-#[derive(Drop)]
+#[derive(Clone, Copy)]
 pub struct Globe {}
 
 impl Globe {

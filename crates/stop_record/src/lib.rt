@@ -1,10 +1,12 @@
 // A stop time as a record, and one that is filled with a distance. Slices of records, and their columns, are left to `records`.
+#![tactic(auto)]
+
 ghost use Rattle.std.specs.Prelude.{◌≡◌};
 ghost use Rattle.stop_record.specs.Record.{filled_of};
 
 // Arrival and departure are schedule seconds. What `dist` holds where `measured` is false is no distance.
 #[repr(C)]
-#[derive(Drop)]
+#[derive(Clone, Copy)]
 pub struct StopTime {
     pub stop: u32,
     pub arrival: u32,

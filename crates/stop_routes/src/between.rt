@@ -10,7 +10,7 @@ use nearest::nearest_idx;
 use routes::{Route, route_of};
 use ways::Way;
 
-#[derive(Drop)]
+#[derive(Clone, Copy)]
 pub enum Routed {
     // This route, sailed this way.
     Over(Route, Way),

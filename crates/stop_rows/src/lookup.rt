@@ -5,7 +5,7 @@ ghost use Rattle.stop_rows.specs.Rows.{is_positioned, if_positioned};
 use ids::Found;
 use tables::{IdRows, StopTimes, Stops, Trips};
 
-#[derive(Drop)]
+#[derive(Clone, Copy)]
 pub struct Lookup {
     pub stops: Stops,
     pub stopkeys: IdRows,

@@ -1,4 +1,6 @@
 // The rules of the stops.
+#![tactic(auto)]
+
 mod rules; // rules.rt: the rules of the table
 
 pub use rules::stops;

@@ -8,7 +8,7 @@ use lengths::Point;
 use line_parts::{Part, less, next_point, point};
 
 // In degrees.
-#[derive(Drop)]
+#[derive(Clone, Copy)]
 pub struct Drawn {
     pub lat: f64,
     pub lon: f64,
@@ -16,7 +16,7 @@ pub struct Drawn {
 }
 
 // What an interpolation gives.
-#[derive(Drop)]
+#[derive(Clone, Copy)]
 pub enum Interpolated {
     // This position.
     At(Drawn),

@@ -3,6 +3,8 @@
 // not reads as NaN. Which stretch a length along the line falls on is `first_stretch`.
 //
 // A position is drawn from the spot and the line alone, so that the two always agree.
+#![tactic(auto)]
+
 mod drawing; // the position and the bearing of a spot
 mod spot; // where on a part of a line
 

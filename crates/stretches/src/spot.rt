@@ -1,5 +1,5 @@
 // Where on a part of a line.
-#[derive(Drop)]
+#[derive(Clone, Copy)]
 pub enum Spot {
     // At the part's first vertex.
     First,

@@ -2,7 +2,7 @@
 ghost use Rattle.std.specs.Prelude.{◌≡◌};
 ghost use Rattle.tables.specs.Bounds.{chart_bounds};
 
-#[derive(Drop)]
+#[derive(Clone, Copy)]
 pub struct Bounds {
     pub stops: u32,
     pub trips: u32,

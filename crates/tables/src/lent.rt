@@ -4,7 +4,7 @@ use ids::{IdColumn, Span};
 
 // Records in their own order.
 #[repr(C)]
-#[derive(Drop)]
+#[derive(Clone, Copy)]
 pub struct Stops {
     pub own: IdColumn,
     pub raw: IdColumn,
@@ -15,7 +15,7 @@ pub struct Stops {
 
 // Ids that ascend, each with the row of a record.
 #[repr(C)]
-#[derive(Drop)]
+#[derive(Clone, Copy)]
 pub struct IdRows {
     pub id: IdColumn,
     pub row: Span,
@@ -23,7 +23,7 @@ pub struct IdRows {
 
 // The rows of a trip in the stop times are `count` from `first` on.
 #[repr(C)]
-#[derive(Drop)]
+#[derive(Clone, Copy)]
 pub struct Trips {
     pub feed: IdColumn,
     pub service: IdColumn,
@@ -36,7 +36,7 @@ pub struct Trips {
 
 // Arrivals and departures are schedule seconds.
 #[repr(C)]
-#[derive(Drop)]
+#[derive(Clone, Copy)]
 pub struct StopTimes {
     pub sequence: Span,
     pub stop: Span,
@@ -48,7 +48,7 @@ pub struct StopTimes {
 
 // The points of a shape are `count` from `first` on.
 #[repr(C)]
-#[derive(Drop)]
+#[derive(Clone, Copy)]
 pub struct Shapes {
     pub id: IdColumn,
     pub first: Span,
@@ -56,7 +56,7 @@ pub struct Shapes {
 }
 
 #[repr(C)]
-#[derive(Drop)]
+#[derive(Clone, Copy)]
 pub struct Points {
     pub lat: Span,
     pub lon: Span,
@@ -64,7 +64,7 @@ pub struct Points {
 
 // An alias and the trip id that it stands for.
 #[repr(C)]
-#[derive(Drop)]
+#[derive(Clone, Copy)]
 pub struct Aliases {
     pub id: IdColumn,
     pub trip: IdColumn,
@@ -72,7 +72,7 @@ pub struct Aliases {
 
 // By token, then trip.
 #[repr(C)]
-#[derive(Drop)]
+#[derive(Clone, Copy)]
 pub struct Lines {
     pub token: IdColumn,
     pub trip: Span,
@@ -80,14 +80,14 @@ pub struct Lines {
 
 // The feeds that have a calendar.
 #[repr(C)]
-#[derive(Drop)]
+#[derive(Clone, Copy)]
 pub struct Calendars {
     pub feed: IdColumn,
 }
 
 // By feed, then service. Days are dates, yyyymmdd; weekdays the low seven bits, Monday lowest.
 #[repr(C)]
-#[derive(Drop)]
+#[derive(Clone, Copy)]
 pub struct Ranges {
     pub feed: IdColumn,
     pub service: IdColumn,
@@ -98,7 +98,7 @@ pub struct Ranges {
 
 // By feed, service, date, then added before removed.
 #[repr(C)]
-#[derive(Drop)]
+#[derive(Clone, Copy)]
 pub struct Exceptions {
     pub feed: IdColumn,
     pub service: IdColumn,
@@ -108,7 +108,7 @@ pub struct Exceptions {
 
 // By stop_sequence.
 #[repr(C)]
-#[derive(Drop)]
+#[derive(Clone, Copy)]
 pub struct Updates {
     pub sequence: Span,
     pub stop: IdColumn,
@@ -125,7 +125,7 @@ pub struct Updates {
 
 // One row.
 #[repr(C)]
-#[derive(Drop)]
+#[derive(Clone, Copy)]
 pub struct Sailing {
     pub feed: IdColumn,
     pub key: IdColumn,
@@ -137,7 +137,7 @@ pub struct Sailing {
 }
 
 #[repr(C)]
-#[derive(Drop)]
+#[derive(Clone, Copy)]
 pub struct Tables {
     pub stops: Stops,
     pub stopkeys: IdRows,
@@ -157,7 +157,7 @@ pub struct Tables {
 
 // What matching is asked of, in one row: the trip key before its last `@`, the route, the first departure.
 #[repr(C)]
-#[derive(Drop)]
+#[derive(Clone, Copy)]
 pub struct Journey {
     pub key: IdColumn,
     pub route: IdColumn,
@@ -169,7 +169,7 @@ pub struct Journey {
 
 // What a calendar is asked of, in one row.
 #[repr(C)]
-#[derive(Drop)]
+#[derive(Clone, Copy)]
 pub struct Service {
     pub feed: IdColumn,
     pub service: IdColumn,
@@ -177,14 +177,14 @@ pub struct Service {
 }
 
 // The trip that a leg is asked of, in one row.
-#[derive(Drop)]
+#[derive(Clone, Copy)]
 pub struct LegAsked {
     pub trip: IdColumn,
 }
 
 // What interpolation alone is lent: the points of one line, the positions of a leg's ends, distances, and a
 // fraction and calibration numbers. Each may be empty.
-#[derive(Drop)]
+#[derive(Clone, Copy)]
 pub struct Along {
     pub line: Points,
     pub ends: Points,
@@ -194,7 +194,7 @@ pub struct Along {
 
 // What calibration alone is lent: the points of one line, samples, each a position and a distance, and
 // calibration numbers.
-#[derive(Drop)]
+#[derive(Clone, Copy)]
 pub struct Samples {
     pub line: Points,
     pub at: Points,

@@ -2,7 +2,7 @@
 use ids::Span;
 
 // The five pools.
-#[derive(Drop)]
+#[derive(Clone, Copy)]
 pub enum Pool {
     Bytes,
     Words,
@@ -12,7 +12,7 @@ pub enum Pool {
 }
 
 // Which rows of a column have a value: all, or those whose flag is set.
-#[derive(Drop)]
+#[derive(Clone, Copy)]
 pub struct Mark {
     pub all: bool,
     pub flags: Span,

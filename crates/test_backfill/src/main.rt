@@ -6,6 +6,8 @@
 //   =N xN         that number; after `x` a float's bits in hexadecimal
 //   ?N            a question: backfill of all trips where N is 0, and else of trip N - 1 alone
 // The words of a world begin with the layout of its tables (crate worlds). An answer is a line: the bits of each distance, `-` where it is missing; or `refused N`.
+#![tactic(auto)]
+
 mod ask; // ask.rt: the answer to a question
 mod put; // put.rt: numbers into pools
 mod script; // script.rt: the script's words

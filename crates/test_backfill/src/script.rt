@@ -1,7 +1,7 @@
 // The script's words.
 ghost use Rattle.std.specs.Prelude.{◌≤◌};
 
-#[derive(Drop)]
+#[derive(Clone, Copy)]
 pub struct Script {
     // the word that is being read: its letter, 0 before it, and its number so far
     pub letter: u8,

@@ -1,5 +1,7 @@
 // Replays cases through what `board` is made of: cases one after another, each ended by a line `(end)`, the last by the end of the text; one line of answer for each.
 // The cases are those of examples/, in the order of their names.
+#![tactic(auto)]
+
 use estimate_lines::answer_case;
 
 // More cases than any text has.

@@ -11,6 +11,8 @@
 //   ?N               a question: the first refusal of operation N (ask.rt)
 // The words of the world begin with the layout of its tables (crate worlds). A line that is wrong is named on
 // standard error, and no line after it is read.
+#![tactic(auto)]
+
 ghost use Rattle.std.specs.Prelude.{◌≤◌, length};
 
 mod ask; // ask.rt: the operations, and the answer to a question

@@ -1,5 +1,7 @@
 // Reads lines of eight digits, and writes each date's day and weekday, or its refusal. The answers
 // that it is held to were made with Python's datetime.
+#![tactic(auto)]
+
 use days::ReadDate;
 use libc::{STDIN_FILENO, STDOUT_FILENO};
 

@@ -6,6 +6,8 @@
 //   ?0      draws a leg: the first words are the two offsets and the room; the layout of the tables is crate `worlds`'s
 //   ?1      draws a journey: the third word is the room; from word 12 on stand the places of its columns
 // After a question the pools are empty.
+#![tactic(auto)]
+
 mod ask; // ask.rt: what is drawn
 mod script; // script.rt: a word of the text
 

@@ -1,5 +1,5 @@
 // A word of the text so far, and how much of each pool is filled.
-#[derive(Drop)]
+#[derive(Clone, Copy)]
 pub struct Script {
     pub letter: u8,
     pub number: u64,

@@ -15,6 +15,8 @@
 //   feed D0 D1 FRAC A B                the same in a feed's unit
 //   along FRAC                         the position at a fraction of the line
 //   polyline LAT LON LAT LON FRAC      the position at a fraction of the way between two stops
+#![tactic(auto)]
+
 mod ask; // ask.rt: the questions
 mod read; // read.rt: the numbers of a line of text
 mod tell; // tell.rt: the answers
@@ -23,7 +25,7 @@ use libc::STDIN_FILENO;
 use projection::Cursor;
 
 // How many vertices a line has so far, and where its trip has got to.
-#[derive(Drop)]
+#[derive(Clone, Copy)]
 struct Asked {
     n: usize,
     cursor: Cursor,

@@ -4,6 +4,8 @@
 // A line is a row of a table: the table's letter, then the fields in the order of the columns, each after a tab (rows.rt):
 //   t trips   k trip ids   c stop times   a aliases   l lines   f calendars   r ranges   e exceptions   j the journey   v the service
 // The last two are questions. An empty line ends a world.
+#![tactic(auto)]
+
 mod ask; // ask.rt: the answers
 mod put; // put.rt: numbers and ids into pools
 mod rows; // rows.rt: a line's fields, and where each goes

@@ -1,5 +1,5 @@
 // A line's fields, and where each goes. Columns are counted as crate `worlds` counts them.
-#[derive(Drop)]
+#[derive(Clone, Copy)]
 pub struct Row {
     // the table's letter, 0 before it, and its first column
     pub letter: u8,
@@ -17,7 +17,7 @@ pub struct Row {
 }
 
 // What a column holds.
-#[derive(Drop)]
+#[derive(Clone, Copy)]
 pub enum Held {
     Ids,
     Words,

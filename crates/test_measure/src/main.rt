@@ -1,6 +1,8 @@
 // Replays a sample of tools/oracle: reads questions from standard input, one to a line, as
 // `haversine 4040000000000000 c05e000000000000 4041000000000000 c05f000000000000`, and writes an
 // answer for each. The file stdout has the Rust's answers, which the gate compares.
+#![tactic(auto)]
+
 use libc::{STDIN_FILENO, STDOUT_FILENO};
 use measure::Measured;
 use texts::begins;

@@ -2,6 +2,7 @@
 // one first stands in another. No function requires anything of its caller.
 //
 // Laws that a caller cites are in proofs/: Folds (what is found in a text lies in it).
+#![tactic(auto)]
 
 mod fold; // each with `fold`, which says in which of the two ways
 

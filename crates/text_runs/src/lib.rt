@@ -2,6 +2,7 @@
 // requires anything of its caller.
 //
 // Laws that a caller cites are in proofs/: Runs (what is found in a text lies in it).
+#![tactic(auto)]
 
 mod byte; // where a byte stands, and how far a run of bytes goes
 

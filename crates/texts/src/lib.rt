@@ -3,6 +3,7 @@
 //
 // The definitions that the contracts cite are in specs/. Laws that a caller cites are in proofs/:
 // Texts and Trims (what is found in a text lies in it).
+#![tactic(auto)]
 
 mod text; // where something stands in a text
 

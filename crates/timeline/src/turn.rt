@@ -6,7 +6,7 @@ ghost use Rattle.timeline.specs.Turn.{time_at, during, alongside, under_way, edg
 
 use ids::Found;
 
-#[derive(Drop)]
+#[derive(Clone, Copy)]
 pub enum Turn {
     // Alongside this call.
     At(usize),

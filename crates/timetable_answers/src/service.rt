@@ -4,7 +4,7 @@ ghost use Rattle.measure.specs.Answer.{given};
 ghost use Rattle.timetable_answers.specs.Answers.{run_answer};
 
 // What is answered of a service and a date.
-#[derive(Drop)]
+#[derive(Clone, Copy)]
 pub enum Running {
     Runs,
     Rests,

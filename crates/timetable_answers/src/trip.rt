@@ -6,7 +6,7 @@ ghost use Rattle.timetable_answers.specs.Answers.{match_answer};
 use ids::Found;
 
 // What matching answers.
-#[derive(Drop)]
+#[derive(Clone, Copy)]
 pub enum Matched {
     // the trip's row
     Trip(usize),

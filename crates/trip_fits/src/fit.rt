@@ -9,7 +9,7 @@ use services::runs;
 use tables::{Calendars, Exceptions, Lines, Ranges, Trips};
 
 // What a trip is found in by its line and time.
-#[derive(Drop)]
+#[derive(Clone, Copy)]
 pub struct Plan {
     pub trips: Trips,
     // of the stop times

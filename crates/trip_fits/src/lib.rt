@@ -2,6 +2,8 @@
 //
 // The moment is given as two counts of seconds, from the beginning of its own service day and of the day before; how these are reckoned
 // from a moment is not settled here.
+#![tactic(auto)]
+
 mod fit; // how well a trip's first departure fits
 
 pub use fit::{Plan, fit_of};

@@ -1,6 +1,8 @@
 // Published: backfill of a trip's stop times that are lent as records, a mutable slice of structs. Only missing distances are written; every other
 // field of every record is as it was. It ports `backfill_shape_dist_traveled` of the Rust's routing/geometry.rs for one trip, through the core of `backfill`
 // on columns, which are lent too. What is refused is refused before anything is written.
+#![tactic(auto)]
+
 ghost use Rattle.std.specs.Prelude.{◌≡◌, ◌≤◌, length};
 ghost use Rattle.filled_records.specs.Records.{core_d, core_k, laid_r, laid_a, laid_d, laid_k};
 ghost use Rattle.filled_records.specs.Answers.{code_of, records_after, stops_after, dists_after, marks_after};

@@ -7,7 +7,7 @@ use ids::Found;
 use projection::{Cursor, Position};
 
 // Where the cursor is after a stop, and the stop's vertex as a word.
-#[derive(Drop)]
+#[derive(Clone, Copy)]
 pub(crate) struct Marked {
     pub at: usize,
     pub word: u32,

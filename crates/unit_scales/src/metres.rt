@@ -6,14 +6,14 @@ use crate::scale::snap_unit_scale;
 use ieee::abs;
 
 // A distance d stands for a + b·d metres.
-#[derive(Drop)]
+#[derive(Clone, Copy)]
 pub struct Affine {
     pub a: f64,
     pub b: f64,
 }
 
 // What two samples tell.
-#[derive(Drop)]
+#[derive(Clone, Copy)]
 pub enum Calibrated {
     By(Affine),
     Nothing,

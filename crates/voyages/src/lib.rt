@@ -2,6 +2,8 @@
 // sailing without the clock: its calls, its legs with the path of each, where she is pinned without a call.
 // Parts 1 to 3 of the Rust's `estimate_vehicle_pos` and `estimate_approaching_single` are the definition
 // `outcome_at` in specs/; the code here makes the records, and `estimate` reads the tables.
+#![tactic(auto)]
+
 mod record; // the record, and what an estimate comes to
 
 pub use record::{Estimate, Outcome, at_stop, on_leg};

@@ -7,7 +7,7 @@ use lengths::Point;
 use paths::Status;
 
 // Where she is, and how that was found.
-#[derive(Drop)]
+#[derive(Clone, Copy)]
 pub struct Estimate {
     pub lat: f64,
     pub lon: f64,
@@ -22,7 +22,7 @@ pub struct Estimate {
     pub sequence: u32,
 }
 
-#[derive(Drop)]
+#[derive(Clone, Copy)]
 pub enum Outcome {
     // The estimate, and the place that its coordinates are drawn from.
     At(Estimate, Place),

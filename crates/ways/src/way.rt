@@ -2,7 +2,7 @@
 ghost use Rattle.std.specs.Prelude.{◌≡◌};
 ghost use Rattle.ways.specs.Way.{turned_of};
 
-#[derive(Drop)]
+#[derive(Clone, Copy)]
 pub enum Way {
     // In the order of its vertices.
     With,

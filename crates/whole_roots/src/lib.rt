@@ -2,6 +2,8 @@
 // f64.
 //
 // Laws that a caller cites are in proofs/: Whole (what the whole root is), Span (how large it is).
+#![tactic(auto)]
+
 mod search; // by halves, or beside a guess
 
 pub use search::beside;
