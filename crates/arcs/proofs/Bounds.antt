@@ -105,7 +105,7 @@ by_zero : {x y : Float} → Zero x → Zero y → div binary64 x y ≡ nan
 unfolding div
 by_zero (zero_of s e) (zero_of t d) = refl
 
-abbrev InUnitOrNan : Float → Type 0
+abbrev pub InUnitOrNan : Float → Type 0
 InUnitOrNan t = (t ≡ nan) ⊎ InUnit t
 
 by_infinity : {x : Float} → NonNeg x → InUnitOrNan (div binary64 x (inf false))
@@ -114,7 +114,7 @@ by_infinity (clear m e) = inr (record { low = tt; high = tt })
 by_infinity (minus e) = inr (record { low = tt; high = tt })
 by_infinity endless = inl refl
 
-ratio : (x y : Float) → T (le nought x) → T (le x y) → InUnitOrNan (div binary64 x y)
+pub ratio : (x y : Float) → T (le nought x) → T (le x y) → InUnitOrNan (div binary64 x y)
 ratio x y z h = go (lt nought y) (λ (k : T (lt nought y)). k) (λ (k : T (not (lt nought y))). not_lt-le nought y tt (le-number_right x y h) k)
   where
     positive : {y : Float} → Above y → T (le x y) → T (lt nought y) → InUnitOrNan (div binary64 x y)
@@ -180,7 +180,7 @@ turned_bounded y x a h = outer (lt y nought) (inner (lt x nought))
     outer false k = k
 
 -- ---- for all floats
-abs_nonneg : (x : Float) → T (not (ne x x)) → T (le nought (abs_of x))
+pub abs_nonneg : (x : Float) → T (not (ne x x)) → T (le nought (abs_of x))
 abs_nonneg nan h = unfold ne eq in absurd h
 abs_nonneg (inf s) h = unfold abs_of le lt eq in tt
 abs_nonneg (fin s m e) h = unfold abs_of in nonneg_le (clear m e)

@@ -1,5 +1,7 @@
 // The lines of standard input. It is read in chunks, and a line is put together in a buffer of its own.
-use libc::STDIN_FILENO;
+use input_bytes::read_full;
+use std::io;
+use std::io::Read;
 
 // More bytes than any line has.
 const BYTES: u64 = 9223372036854775808;
@@ -21,12 +23,12 @@ pub struct Taken {
 }
 
 // The same input, with a chunk that has a byte; without one where all is read.
-fn filled(text: &mut [u8], input: Input) -> Input {
+fn filled(stdin: &mut impl Read, text: &mut [u8], input: Input) -> io::Result<Input> {
     if input.at < input.n {
-        return input;
+        return Ok(input);
     }
-    let n = io::read_full(STDIN_FILENO, text);
-    Input { at: 0, n }
+    let n = read_full(stdin, text)?;
+    Ok(Input { at: 0, n })
 }
 
 fn byte_at(text: &[u8], i: usize) -> u8 {
@@ -53,23 +55,29 @@ fn left(length: usize, input: Input, over: bool) -> Taken {
 }
 
 // The next line, of a chunk whose bytes from `at` up to n are read and not taken, into `line`, without its newline; the last may lack it.
-pub(crate) fn next_line(text: &mut [u8], line: &mut [u8], at: usize, n: usize) -> Taken {
+pub(crate) fn next_line(
+    stdin: &mut impl Read,
+    text: &mut [u8],
+    line: &mut [u8],
+    at: usize,
+    n: usize,
+) -> io::Result<Taken> {
     let mut input = Input { at, n };
     let mut size: usize = 0;
     let mut k: u64 = 0;
     while k < BYTES {
-        input = filled(text, input);
+        input = filled(stdin, text, input)?;
         if input.n <= input.at {
-            return left(size, input, size == 0);
+            return Ok(left(size, input, size == 0));
         }
         let b = byte_at(text, input.at);
         input.at = std::num::wrapping_add_usize(input.at, 1);
         if b == b'\n' {
-            return left(size, input, false);
+            return Ok(left(size, input, false));
         }
         put_byte(line, size, b);
         size = std::num::wrapping_add_usize(size, 1);
         k += 1;
     }
-    left(size, input, true)
+    Ok(left(size, input, true))
 }

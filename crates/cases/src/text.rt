@@ -6,6 +6,8 @@ use case_queries::{Query, query_of};
 use case_tables::{count, layout};
 use case_tokens::{field, inside};
 use case_words::{Form, Why, form_of};
+use std::io;
+use std::io::Read;
 
 // How far a text is read.
 #[derive(Clone, Copy)]
@@ -145,6 +147,7 @@ fn after(
 
 // Takes the next line.
 fn step(
+    stdin: &mut impl Read,
     text: &mut [u8],
     line: &mut [u8],
     queries: &mut [u8],
@@ -155,11 +158,11 @@ fn step(
     dists: &mut [f32],
     end: &[u8],
     r: Reading,
-) -> Reading {
-    let taken = next_line(text, line, r.at, r.n);
-    after(
+) -> io::Result<Reading> {
+    let taken = next_line(stdin, text, line, r.at, r.n)?;
+    Ok(after(
         line, queries, bytes, words, times, reals, dists, end, taken, r,
-    )
+    ))
 }
 
 // A case has a feed, a trip and a clock.
@@ -192,6 +195,7 @@ fn ended(words: &[u32], r: Reading) -> Reading {
 
 // Reads a case from standard input, up to a line `end` or the end of the text: `text` and `line` hold a chunk and a line, and queries are kept in `queries`.
 pub fn read(
+    stdin: &mut impl Read,
     text: &mut [u8],
     line: &mut [u8],
     queries: &mut [u8],
@@ -202,21 +206,21 @@ pub fn read(
     dists: &mut [f32],
     end: &[u8],
     from: Reading,
-) -> Reading {
+) -> io::Result<Reading> {
     let mut so_far = from;
     let mut k: u64 = 0;
     while k < LINES {
         so_far = step(
-            text, line, queries, bytes, words, times, reals, dists, end, so_far,
-        );
+            stdin, text, line, queries, bytes, words, times, reals, dists, end, so_far,
+        )?;
         k = turn(k, so_far.over);
     }
-    ended(words, so_far)
+    Ok(ended(words, so_far))
 }
 
 // Writes the refusal of a text that is no case, and its cause.
-pub fn print_fault(r: Reading) {
+pub fn print_fault(out: &impl Print, err: &impl Print, r: Reading) -> io::Result<()> {
     let form = r.form;
     let why = r.why;
-    case_answers::print_fault(r.lines, form, why);
+    case_answers::print_fault(out, err, r.lines, form, why)
 }

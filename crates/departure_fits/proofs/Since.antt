@@ -20,7 +20,7 @@ as_signed s f = to_z_pos w64 (omega (arith, f.fits))
 
 -- a signed number, read back
 pub read : (z : ℤ) → mag z < 2 ^ 63 → back z ≡ z
-read z small = to_z-of_z (record { sfits = small })
+read z small = to_z-of_z {w = w64} (record { sfits = small })
 
 module _ (s c : ℕ) (f : Fits w32 s) (g : Fits w32 c) where
   pub counts_near : Near (pos s) (pos c)

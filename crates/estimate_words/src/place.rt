@@ -1,76 +1,76 @@
 // The place beside the estimate.
 use estimate_answers::Estimated;
 use legs::Place;
-use libc::STDOUT_FILENO;
 use paths::Line;
+use std::io;
 use ways::Way;
 
-fn text(s: &[u8]) {
-    io::write_all(STDOUT_FILENO, s);
+fn text(out: &impl Print, s: &[u8]) -> io::Result<()> {
+    out.write_all(s)
 }
 
-fn count(n: u64) {
-    io::print_decimal(STDOUT_FILENO, n);
+fn count(out: &impl Print, n: u64) -> io::Result<()> {
+    print!(out; "{n}")
 }
 
-fn leg(k: u32) {
-    text(b"(leg ");
-    count(k as u64);
+fn leg(out: &impl Print, k: u32) -> io::Result<()> {
+    text(out, b"(leg ")?;
+    count(out, k as u64)
 }
 
-fn path(line: Line) {
+fn path(out: &impl Print, line: Line) -> io::Result<()> {
     match line {
-        Line::Shape => text(b" shape "),
-        Line::Chain => text(b" chain "),
-        Line::Straight => text(b" straight "),
+        Line::Shape => text(out, b" shape "),
+        Line::Chain => text(out, b" chain "),
+        Line::Straight => text(out, b" straight "),
     }
 }
 
-fn way(w: Way) {
+fn way(out: &impl Print, w: Way) -> io::Result<()> {
     match w {
-        Way::With => text(b" up "),
-        Way::Against => text(b" down "),
+        Way::With => text(out, b" up "),
+        Way::Against => text(out, b" down "),
     }
 }
 
-fn stretch(k: u32, line: Line, w: Way, vertex: usize, t: f64) {
-    leg(k);
-    path(line);
-    count(vertex as u64);
-    way(w);
-    io::print_hex(STDOUT_FILENO, float_bits::bits_of_f64(t), 16);
-    text(b")\n");
+fn stretch(out: &impl Print, k: u32, line: Line, w: Way, vertex: usize, t: f64) -> io::Result<()> {
+    leg(out, k)?;
+    path(out, line)?;
+    count(out, vertex as u64)?;
+    way(out, w)?;
+    print!(out; "{:016x}", float_bits::bits_of_f64(t))?;
+    text(out, b")\n")
 }
 
-fn line(p: Place) {
+fn line(out: &impl Print, p: Place) -> io::Result<()> {
     match p {
         Place::Call(k) => {
-            text(b"(call ");
-            count(k as u64);
-            text(b")\n");
+            text(out, b"(call ")?;
+            count(out, k as u64)?;
+            text(out, b")\n")
         }
         Place::Start(k) => {
-            leg(k);
-            text(b" start)\n");
+            leg(out, k)?;
+            text(out, b" start)\n")
         }
         Place::End(k) => {
-            leg(k);
-            text(b" end)\n");
+            leg(out, k)?;
+            text(out, b" end)\n")
         }
-        Place::Stretch(k, line, w, vertex, t) => stretch(k, line, w, vertex, t),
+        Place::Stretch(k, line, w, vertex, t) => stretch(out, k, line, w, vertex, t),
         Place::NoStretch(k, line, _) => {
-            leg(k);
-            path(line);
-            text(b"last)\n");
+            leg(out, k)?;
+            path(out, line)?;
+            text(out, b"last)\n")
         }
     }
 }
 
 // Writes the place of an answer.
-pub fn print_place(answer: Estimated) {
+pub fn print_place(out: &impl Print, err: &impl Print, answer: Estimated) -> io::Result<()> {
     match answer {
-        Estimated::At(_, p) => line(p),
-        Estimated::Silence => case_answers::print_none(),
-        Estimated::Refused(n) => case_answers::print_refusal(n),
+        Estimated::At(_, p) => line(out, p),
+        Estimated::Silence => case_answers::print_none(out),
+        Estimated::Refused(n) => case_answers::print_refusal(out, err, n),
     }
 }

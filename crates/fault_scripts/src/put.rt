@@ -1,55 +1,57 @@
 // Numbers into pools.
 use crate::script::Script;
+use std::io;
 
 // Puts a number at the next place, if the pool has that place and the number is small enough.
 pub fn one(
+    err: &impl Print,
     bytes: &mut [u8],
     words: &mut [u32],
     times: &mut [i64],
     reals: &mut [f64],
     dists: &mut [f32],
     read: Script,
-) -> Script {
+) -> io::Result<Script> {
     let n = read.number;
     if put(bytes, words, times, reals, dists, read, n) {
-        return read.gone_on(n);
+        return Ok(read.gone_on(n));
     }
-    read.fails(b"a number or a place too large")
+    read.fails(err, b"a number or a place too large")
 }
 
 // As many numbers more as the script's word says, each the last one plus the step.
-pub fn more(words: &mut [u32], read: Script) -> Script {
+pub fn more(err: &impl Print, words: &mut [u32], read: Script) -> io::Result<Script> {
     if read.pool != b'w' {
-        return read.fails(b"not among the words");
+        return read.fails(err, b"not among the words");
     }
     let mut r = read;
     let mut left = read.number;
     while 0 < left {
         let n = std::num::wrapping_add_u64(r.last, r.step);
         if !word(words, r.at, n) {
-            return r.fails(b"a number or a place too large");
+            return r.fails(err, b"a number or a place too large");
         }
         r = r.gone_on(n);
         left -= 1;
     }
-    r
+    Ok(r)
 }
 
 // As many ids as the script's word says.
-pub fn ids(bytes: &mut [u8], read: Script) -> Script {
+pub fn ids(err: &impl Print, bytes: &mut [u8], read: Script) -> io::Result<Script> {
     if read.pool != b'b' {
-        return read.fails(b"not among the bytes");
+        return read.fails(err, b"not among the bytes");
     }
     let mut k = 0;
     let mut at = read.at;
     while k < read.number {
         if !id(bytes, at, k) {
-            return read.fails(b"too many ids");
+            return read.fails(err, b"too many ids");
         }
         at = std::num::wrapping_add_usize(at, 3);
         k += 1;
     }
-    read
+    Ok(read)
 }
 
 // Id k: three digits in base 95, from a space on.

@@ -1,7 +1,7 @@
 // A script's words, and what those read so far have set.
 ghost use Rattle.std.specs.Prelude.{◌≤◌};
 
-use libc::STDERR_FILENO;
+use std::io;
 
 #[derive(Clone, Copy)]
 pub struct Script {
@@ -34,27 +34,27 @@ impl Script {
     }
 
     // One byte more of a word.
-    pub fn spelled(mut self, b: u8) -> Self {
+    pub fn spelled(mut self, err: &impl Print, b: u8) -> io::Result<Self> {
         if self.letter == 0 {
             self.letter = b;
-            return self;
+            return Ok(self);
         }
         let d = digit(b);
         if self.number >= 0x1000_0000_0000_0000 {
-            return self.fails(b"a number too large");
+            return self.fails(err, b"a number too large");
         }
         if self.letter == b'x' {
             if 15 < d {
-                return self.fails(b"no digit");
+                return self.fails(err, b"no digit");
             }
             self.number = self.number * 16 + d;
-            return self;
+            return Ok(self);
         }
         if 9 < d {
-            return self.fails(b"no digit");
+            return self.fails(err, b"no digit");
         }
         self.number = self.number * 10 + d;
-        self
+        Ok(self)
     }
 
     pub fn next_word(mut self) -> Self {
@@ -88,14 +88,14 @@ impl Script {
     }
 
     // Says what is wrong, and where.
-    pub fn fails(mut self, what: &[u8]) -> Self {
-        io::write_all(STDERR_FILENO, b"line ");
-        io::print_decimal(STDERR_FILENO, self.line);
-        io::write_all(STDERR_FILENO, b": ");
-        io::write_all(STDERR_FILENO, what);
-        io::write_all(STDERR_FILENO, b"\n");
+    pub fn fails(mut self, err: &impl Print, what: &[u8]) -> io::Result<Self> {
+        err.write_all(b"line ")?;
+        print!(err; "{}", self.line)?;
+        err.write_all(b": ")?;
+        err.write_all(what)?;
+        err.write_all(b"\n")?;
         self.wrong = true;
-        self
+        Ok(self)
     }
 }
 

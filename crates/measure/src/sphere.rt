@@ -15,5 +15,10 @@ pub fn bearing(lat1: f64, lon1: f64, lat2: f64, lon2: f64) -> f64
     let y = sin(dlon) * cos2;
     let x = cos(phi1) * sin(phi2) - sin(phi1) * cos2 * cos(dlon);
     let theta = maths::degrees(arcs::atan2(y, x));
-    (theta + 360.0) % 360.0
+    // The remainder by 360: the sum is NaN, or above 0 and below 720.
+    let turned = theta + 360.0;
+    if turned < 360.0 {
+        return turned;
+    }
+    turned - 360.0
 }

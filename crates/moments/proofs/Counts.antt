@@ -39,13 +39,13 @@ module _ (z : ℤ) (h : InReach z) where
   ordinal_fits = record { sfits = omega (arith, ordinal_small z h) }
 
   day_read : back (service_day_of z).day ≡ (service_day_of z).day
-  day_read = to_z-of_z (record { sfits = omega (arith, day_small z h) })
+  day_read = to_z-of_z {w = w64} (record { sfits = omega (arith, day_small z h) })
 
   pub sum_fits : SFits w64 (back (service_day_of z).day +ℤ pos 719163)
   sum_fits = rw (day_read, ordinal_is z h) ordinal_fits
 
   pub ordinal_read : back (back (service_day_of z).day +ℤ pos 719163) ≡ pos (today_of z).day
-  ordinal_read = rw (day_read, ordinal_is z h) (to_z-of_z ordinal_fits)
+  ordinal_read = rw (day_read, ordinal_is z h) (to_z-of_z {w = w64} ordinal_fits)
 
 pub second_read : (z : ℤ) → back (service_day_of z).second ≡ pos (today_of z).second
 unfolding today_of service_day_of

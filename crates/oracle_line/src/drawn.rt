@@ -47,8 +47,7 @@ fn bearing_or(drawn: Interpolated, old: f64) -> f64
     }
 }
 
-#[unsafe(no_mangle)]
-pub extern "C" fn zebumorn_interpolate_shape_by_dist(
+pub fn zebumorn_interpolate_shape_by_dist(
     lat: &[f64],
     lon: &[f64],
     d0: f32,
@@ -70,8 +69,7 @@ pub extern "C" fn zebumorn_interpolate_shape_by_dist(
     is_at(drawn)
 }
 
-#[unsafe(no_mangle)]
-pub extern "C" fn zebumorn_interpolate_shape_by_feed_dist(
+pub fn zebumorn_interpolate_shape_by_feed_dist(
     lat: &[f64],
     lon: &[f64],
     d0: f32,
@@ -95,8 +93,7 @@ pub extern "C" fn zebumorn_interpolate_shape_by_feed_dist(
     is_at(drawn)
 }
 
-#[unsafe(no_mangle)]
-pub extern "C" fn zebumorn_interpolate_along_vertices(
+pub fn zebumorn_interpolate_along_vertices(
     lat: &[f64],
     lon: &[f64],
     frac: f64,
@@ -116,8 +113,7 @@ pub extern "C" fn zebumorn_interpolate_along_vertices(
     is_at(drawn)
 }
 
-#[unsafe(no_mangle)]
-pub extern "C" fn zebumorn_interpolate_polyline(
+pub fn zebumorn_interpolate_polyline(
     lat: &[f64],
     lon: &[f64],
     y0: f64,
@@ -143,8 +139,7 @@ pub extern "C" fn zebumorn_interpolate_polyline(
     is_at(drawn)
 }
 
-#[unsafe(no_mangle)]
-pub extern "C" fn zebumorn_nearest_idx(lat: &[f64], lon: &[f64], y: f64, x: f64) -> usize
+pub fn zebumorn_nearest_idx(lat: &[f64], lon: &[f64], y: f64, x: f64) -> usize
     ensures { result ≡ nearest_of (line_of lat.entry.now lon.now) (record { lat = y; lon = x }) }
 {
     let stop = Point { lat: y, lon: x };

@@ -1,5 +1,5 @@
-// The C names under which tools/oracle holds lengths, the projection, calibration and places along a line beside the Rust. Each says no
-// more than the function that it calls.
+// What tools/oracle holds beside the Rust of lengths, the projection, calibration and places along a line: functions of numbers alone, which crate
+// oracle_line_c gives their C names. Each says no more than the function that it calls.
 #![tactic(auto)]
 
 mod drawn; // places along a line
@@ -23,35 +23,20 @@ use lengths::Point;
 use projection::{Cursor, Position};
 use unit_scales::Calibrated;
 
-#[unsafe(no_mangle)]
-pub extern "C" fn zebumorn_length_to(lat: &[f64], lon: &[f64], k: usize) -> f64
+pub fn zebumorn_length_to(lat: &[f64], lon: &[f64], k: usize) -> f64
     ensures { result ≡ length_to (line_of lat.now lon.now) k }
 {
     running_lengths::length_to(lat, lon, k)
 }
 
-#[unsafe(no_mangle)]
-pub extern "C" fn zebumorn_forward_shape_index(
-    lat: &[f64],
-    lon: &[f64],
-    from: usize,
-    y: f64,
-    x: f64,
-) -> usize
+pub fn zebumorn_forward_shape_index(lat: &[f64], lon: &[f64], from: usize, y: f64, x: f64) -> usize
     ensures { result ≡ forward_shape_index (line_of lat.entry.now lon.now) from (record { lat = y; lon = x }) }
 {
     let stop = Point { lat: y, lon: x };
     near_vertex::forward_shape_index(lat, lon, from, stop)
 }
 
-#[unsafe(no_mangle)]
-pub extern "C" fn zebumorn_forward_last_index(
-    lat: &[f64],
-    lon: &[f64],
-    from: usize,
-    y: f64,
-    x: f64,
-) -> usize
+pub fn zebumorn_forward_last_index(lat: &[f64], lon: &[f64], from: usize, y: f64, x: f64) -> usize
     ensures { result ≡ forward_last_index (line_of lat.entry.now lon.now) from (record { lat = y; lon = x }) }
 {
     let stop = Point { lat: y, lon: x };
@@ -80,8 +65,7 @@ fn or_other(found: Found, other: usize) -> usize
 
 // The cursor goes from `at` to the answer; the stop's vertex goes to `vertex`, which stays as it was
 // where the stop has none.
-#[unsafe(no_mangle)]
-pub extern "C" fn zebumorn_pass(
+pub fn zebumorn_pass(
     lat: &[f64],
     lon: &[f64],
     at: usize,
@@ -99,16 +83,14 @@ pub extern "C" fn zebumorn_pass(
     passed.cursor.at
 }
 
-#[unsafe(no_mangle)]
-pub extern "C" fn zebumorn_snap_unit_scale(ratio: f64) -> f64
+pub fn zebumorn_snap_unit_scale(ratio: f64) -> f64
     ensures { result ≡ snap_unit_scale ratio }
 {
     unit_scales::snap_unit_scale(ratio)
 }
 
 // The start and the scale go to `a` and `b`, which stay as they were where there is no answer.
-#[unsafe(no_mangle)]
-pub extern "C" fn zebumorn_shape_dist_affine(
+pub fn zebumorn_shape_dist_affine(
     lat: &[f64],
     lon: &[f64],
     y0: f64,

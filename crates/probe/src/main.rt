@@ -4,8 +4,9 @@
 mod answer; // answer.rt: each line of queries
 
 use crate::answer::answer_all;
+use std::io;
 
-fn main() {
+fn main(rt: HostRuntime) -> io::Result<()> {
     let mut text = [0u8; 16384];
     let mut line = [0u8; 4096];
     let mut queries = [0u8; 65536];
@@ -16,6 +17,7 @@ fn main() {
     let mut dists = [0.0f32; 16400];
     // no line is a newline: the case goes to the end of the text
     let read = cases::read(
+        &mut rt.stdin(),
         &mut text,
         &mut line,
         &mut queries,
@@ -26,12 +28,19 @@ fn main() {
         &mut dists,
         b"\n",
         cases::start(0, 0),
-    );
+    )?;
     if read.good {
         answer_all(
-            &queries, &mut bytes, &mut words, &mut times, &mut reals, &mut dists,
-        );
+            &rt,
+            &rt.stderr(),
+            &queries,
+            &mut bytes,
+            &mut words,
+            &mut times,
+            &mut reals,
+            &mut dists,
+        )
     } else {
-        cases::print_fault(read);
+        cases::print_fault(&rt, &rt.stderr(), read)
     }
 }

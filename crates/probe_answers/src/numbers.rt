@@ -1,21 +1,21 @@
 // The maths, lengths and bearings.
 use measure::Measured;
 use probe_pools::write::double_line;
+use std::io;
 
 // The arc tangent is document 01's, for an argument in 0..1; a NaN is not in it.
-pub(crate) fn atan(x: f64) {
+pub(crate) fn atan(out: &impl Print, x: f64) -> io::Result<()> {
     if 0.0 <= x {
         if x <= 1.0 {
-            double_line(arcs::atan(x));
-            return;
+            return double_line(out, arcs::atan(x));
         }
     }
-    case_answers::print_none();
+    case_answers::print_none(out)
 }
 
-pub(crate) fn print_measured(m: Measured) {
+pub(crate) fn print_measured(out: &impl Print, err: &impl Print, m: Measured) -> io::Result<()> {
     match m {
-        Measured::Value(x) => double_line(x),
-        Measured::OffGlobe => case_answers::print_refusal(3),
+        Measured::Value(x) => double_line(out, x),
+        Measured::OffGlobe => case_answers::print_refusal(out, err, 3),
     }
 }

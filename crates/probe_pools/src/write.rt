@@ -1,38 +1,38 @@
 // Answers.
-use libc::STDOUT_FILENO;
+use std::io;
 
-pub fn text(s: &[u8]) {
-    io::write_all(STDOUT_FILENO, s);
+pub fn text(out: &impl Print, s: &[u8]) -> io::Result<()> {
+    out.write_all(s)
 }
 
-pub fn count(n: u64) {
-    io::print_decimal(STDOUT_FILENO, n);
+pub fn count(out: &impl Print, n: u64) -> io::Result<()> {
+    print!(out; "{n}")
 }
 
-pub fn double(x: f64) {
-    io::print_hex(STDOUT_FILENO, float_bits::bits_of_f64(x), 16);
+pub fn double(out: &impl Print, x: f64) -> io::Result<()> {
+    print!(out; "{:016x}", float_bits::bits_of_f64(x))
 }
 
-pub fn single(x: f32) {
-    io::print_hex(STDOUT_FILENO, float_bits::bits_of_f32(x) as u64, 8);
+pub fn single(out: &impl Print, x: f32) -> io::Result<()> {
+    print!(out; "{:08x}", float_bits::bits_of_f32(x))
 }
 
 // A line of one float.
-pub fn double_line(x: f64) {
-    double(x);
-    text(b"\n");
+pub fn double_line(out: &impl Print, x: f64) -> io::Result<()> {
+    double(out, x)?;
+    text(out, b"\n")
 }
 
-pub fn single_line(x: f32) {
-    single(x);
-    text(b"\n");
+pub fn single_line(out: &impl Print, x: f32) -> io::Result<()> {
+    single(out, x)?;
+    text(out, b"\n")
 }
 
-pub fn signed(n: i64) {
+pub fn signed(out: &impl Print, n: i64) -> io::Result<()> {
     if n < 0 {
-        text(b"-");
+        text(out, b"-")?;
     }
-    count(size(n));
+    count(out, size(n))
 }
 
 // The size of a number, without its sign.

@@ -5,20 +5,21 @@ use case_tokens::field;
 use days::ReadDate;
 use ids::IdColumn;
 use probe_pools::{asked, write};
+use std::io;
 use tables::{Journey, Service, StopTimes, Tables};
 use timetable_answers::{Matched, Running};
 
 // (date N)
-pub fn date(n: u32) {
+pub fn date(out: &impl Print, err: &impl Print, n: u32) -> io::Result<()> {
     match days::read_date(n) {
         ReadDate::Day(day) => {
-            write::text(b"(day ");
-            write::signed(day);
-            write::text(b" ");
-            write::count(day_counts::weekday(day) as u64);
-            write::text(b")\n");
+            write::text(out, b"(day ")?;
+            write::signed(out, day)?;
+            write::text(out, b" ")?;
+            write::count(out, day_counts::weekday(day) as u64)?;
+            write::text(out, b")\n")
         }
-        ReadDate::NotADate => case_answers::print_refusal(10),
+        ReadDate::NotADate => case_answers::print_refusal(out, err, 10),
     }
 }
 
@@ -42,29 +43,36 @@ fn put_service(s: &[u8], bytes: &mut [u8], words: &mut [u32], date: u32) {
     put::word(words, asked::DATE, 0, date);
 }
 
-fn print_running(answer: Running) {
+fn print_running(out: &impl Print, err: &impl Print, answer: Running) -> io::Result<()> {
     match answer {
-        Running::Runs => write::text(b"(yes)\n"),
-        Running::Rests => write::text(b"(no)\n"),
-        Running::Refused(number) => case_answers::print_refusal(number),
+        Running::Runs => write::text(out, b"(yes)\n"),
+        Running::Rests => write::text(out, b"(no)\n"),
+        Running::Refused(number) => case_answers::print_refusal(out, err, number),
     }
 }
 
-fn ask_running(bytes: &[u8], words: &[u32], times: &[i64], reals: &[f64], dists: &[f32], c: Case) {
+fn ask_running(
+    out: &impl Print,
+    err: &impl Print,
+    bytes: &[u8],
+    words: &[u32],
+    times: &[i64],
+    reals: &[f64],
+    dists: &[f32],
+    c: Case,
+) -> io::Result<()> {
     let t = case_tables::tables(c);
-    print_running(service_days::service_runs(
-        bytes,
-        words,
-        times,
-        reals,
-        dists,
-        t,
-        asked_service(),
-    ));
+    print_running(
+        out,
+        err,
+        service_days::service_runs(bytes, words, times, reals, dists, t, asked_service()),
+    )
 }
 
 // (runs ID ID N)
 pub fn runs(
+    out: &impl Print,
+    err: &impl Print,
     s: &[u8],
     bytes: &mut [u8],
     words: &mut [u32],
@@ -73,9 +81,9 @@ pub fn runs(
     dists: &[f32],
     c: Case,
     date: u32,
-) {
+) -> io::Result<()> {
     put_service(s, bytes, words, date);
-    ask_running(bytes, words, times, reals, dists, c);
+    ask_running(out, err, bytes, words, times, reals, dists, c)
 }
 
 fn time_at(times: &[i64], column: u32, row: u32) -> i64 {
@@ -198,32 +206,47 @@ fn lent(c: Case) -> Tables {
     asked::relent(t, stops, trips, tripkeys, departures(t))
 }
 
-fn print_matched(answer: Matched) {
+fn print_matched(out: &impl Print, err: &impl Print, answer: Matched) -> io::Result<()> {
     match answer {
         Matched::Trip(n) => {
-            write::text(b"(trip ");
-            write::count(n as u64);
-            write::text(b")\n");
+            write::text(out, b"(trip ")?;
+            write::count(out, n as u64)?;
+            write::text(out, b")\n")
         }
-        Matched::Nothing => case_answers::print_none(),
-        Matched::Refused(number) => case_answers::print_refusal(number),
+        Matched::Nothing => case_answers::print_none(out),
+        Matched::Refused(number) => case_answers::print_refusal(out, err, number),
     }
 }
 
-fn ask_matched(bytes: &[u8], words: &[u32], times: &[i64], reals: &[f64], dists: &[f32], c: Case) {
+fn ask_matched(
+    out: &impl Print,
+    err: &impl Print,
+    bytes: &[u8],
+    words: &[u32],
+    times: &[i64],
+    reals: &[f64],
+    dists: &[f32],
+    c: Case,
+) -> io::Result<()> {
     let t = lent(c);
-    print_matched(timetable::match_trip(bytes, words, times, reals, dists, t, asked_journey()));
+    print_matched(
+        out,
+        err,
+        timetable::match_trip(bytes, words, times, reals, dists, t, asked_journey()),
+    )
 }
 
 // (match)
 pub fn match_journey(
+    out: &impl Print,
+    err: &impl Print,
     bytes: &mut [u8],
     words: &mut [u32],
     times: &mut [i64],
     reals: &[f64],
     dists: &[f32],
     c: Case,
-) {
+) -> io::Result<()> {
     put_journey(bytes, words, times, c.updates);
-    ask_matched(bytes, words, times, reals, dists, c);
+    ask_matched(out, err, bytes, words, times, reals, dists, c)
 }

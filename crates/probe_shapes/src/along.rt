@@ -4,6 +4,7 @@ use ids::Span;
 use line_answers::{Calibration, Interpolation, Snapped};
 use line_questions::Question;
 use probe_pools::{asked, write};
+use std::io;
 use tables::{Along, Points, Samples};
 
 fn no_points() -> Points {
@@ -35,7 +36,16 @@ fn line_of(words: &[u32], c: Case, shape: u32) -> Points {
 }
 
 // (snap X)
-pub fn snap(bytes: &[u8], words: &[u32], times: &[i64], reals: &mut [f64], dists: &[f32], x: f64) {
+pub fn snap(
+    out: &impl Print,
+    err: &impl Print,
+    bytes: &[u8],
+    words: &[u32],
+    times: &[i64],
+    reals: &mut [f64],
+    dists: &[f32],
+    x: f64,
+) -> io::Result<()> {
     put::real(reals, asked::NUMBER, 0, x);
     let lent = Samples {
         line: no_points(),
@@ -44,25 +54,25 @@ pub fn snap(bytes: &[u8], words: &[u32], times: &[i64], reals: &mut [f64], dists
         numbers: span(asked::NUMBER, 1),
     };
     match calibrate::snap_unit_scale(bytes, words, times, reals, dists, lent) {
-        Snapped::Scale(scale) => write::double_line(scale),
-        Snapped::Nothing => case_answers::print_none(),
-        Snapped::Refused(number) => case_answers::print_refusal(number),
+        Snapped::Scale(scale) => write::double_line(out, scale),
+        Snapped::Nothing => case_answers::print_none(out),
+        Snapped::Refused(number) => case_answers::print_refusal(out, err, number),
     }
 }
 
-fn print_place(answer: Interpolation) {
+fn print_place(out: &impl Print, err: &impl Print, answer: Interpolation) -> io::Result<()> {
     match answer {
         Interpolation::At(at) => {
-            write::text(b"(point ");
-            write::double(at.lat);
-            write::text(b" ");
-            write::double(at.lon);
-            write::text(b" ");
-            write::double(at.bearing);
-            write::text(b")\n");
+            write::text(out, b"(point ")?;
+            write::double(out, at.lat)?;
+            write::text(out, b" ")?;
+            write::double(out, at.lon)?;
+            write::text(out, b" ")?;
+            write::double(out, at.bearing)?;
+            write::text(out, b")\n")
         }
-        Interpolation::Nothing => case_answers::print_none(),
-        Interpolation::Refused(number) => case_answers::print_refusal(number),
+        Interpolation::Nothing => case_answers::print_none(out),
+        Interpolation::Refused(number) => case_answers::print_refusal(out, err, number),
     }
 }
 
@@ -83,6 +93,8 @@ fn along_lent(line: Points) -> Along {
 
 // (along N Y Y X)
 pub fn place_along(
+    out: &impl Print,
+    err: &impl Print,
     bytes: &[u8],
     words: &[u32],
     times: &[i64],
@@ -93,22 +105,25 @@ pub fn place_along(
     from: f32,
     to: f32,
     fraction: f64,
-) {
+) -> io::Result<()> {
     if c.shapes <= shape {
-        case_answers::print_refusal(5);
-        return;
+        return case_answers::print_refusal(out, err, 5);
     }
     put_along(reals, dists, from, to, fraction);
     let lent = along_lent(line_of(words, c, shape));
-    print_place(interpolate::interpolate(
-        bytes,
-        words,
-        times,
-        reals,
-        dists,
-        Question::ByDistance,
-        lent,
-    ));
+    print_place(
+        out,
+        err,
+        interpolate::interpolate(
+            bytes,
+            words,
+            times,
+            reals,
+            dists,
+            Question::ByDistance,
+            lent,
+        ),
+    )
 }
 
 // Whether a row of the stop times has a distance and its stop, of so many, a position.
@@ -193,17 +208,17 @@ fn trip_line(bytes: &[u8], words: &[u32], c: Case, trip: u32) -> Points {
     no_points()
 }
 
-fn print_calibration(answer: Calibration) {
+fn print_calibration(out: &impl Print, err: &impl Print, answer: Calibration) -> io::Result<()> {
     match answer {
         Calibration::By(affine) => {
-            write::text(b"(affine ");
-            write::double(affine.a);
-            write::text(b" ");
-            write::double(affine.b);
-            write::text(b")\n");
+            write::text(out, b"(affine ")?;
+            write::double(out, affine.a)?;
+            write::text(out, b" ")?;
+            write::double(out, affine.b)?;
+            write::text(out, b")\n")
         }
-        Calibration::Nothing => case_answers::print_none(),
-        Calibration::Refused(number) => case_answers::print_refusal(number),
+        Calibration::Nothing => case_answers::print_none(out),
+        Calibration::Refused(number) => case_answers::print_refusal(out, err, number),
     }
 }
 
@@ -222,6 +237,8 @@ fn samples_lent(line: Points, n: u32) -> Samples {
 
 // (calibrate N): the distances stand at the beginning of their pool.
 pub fn calibrate_trip(
+    out: &impl Print,
+    err: &impl Print,
     bytes: &[u8],
     words: &[u32],
     times: &[i64],
@@ -229,14 +246,17 @@ pub fn calibrate_trip(
     dists: &mut [f32],
     c: Case,
     trip: u32,
-) {
+) -> io::Result<()> {
     if c.trips <= trip {
-        case_answers::print_refusal(5);
-        return;
+        return case_answers::print_refusal(out, err, 5);
     }
     let first = ids::cell(words, span(layout::TRIP_FIRST, 0), trip as usize);
     let rows = ids::cell(words, span(layout::TRIP_COUNT, 0), trip as usize);
     let n = put_samples(bytes, words, reals, dists, c.stops, first, rows);
     let lent = samples_lent(trip_line(bytes, words, c, trip), n);
-    print_calibration(calibrate::shape_dist_affine(bytes, words, times, reals, dists, lent));
+    print_calibration(
+        out,
+        err,
+        calibrate::shape_dist_affine(bytes, words, times, reals, dists, lent),
+    )
 }

@@ -3,6 +3,7 @@ use crate::stops::lent;
 use case_tables::{Case, layout, span};
 use line_answers::Backfilled;
 use probe_pools::write;
+use std::io;
 
 // The refusal of a trip that may be none of so many, where the operation refuses with n, or with 0 not at all: a trip past the table gets 5, in its turn.
 fn refusal(n: u32, trip: u32, trips: u32) -> u32 {
@@ -25,30 +26,36 @@ fn dist_at(dists: &[f32], row: usize) -> f32 {
     0.0
 }
 
-fn dist(dists: &[f32], marks: &[u8], row: usize) {
-    write::text(b" ");
+fn dist(out: &impl Print, dists: &[f32], marks: &[u8], row: usize) -> io::Result<()> {
+    write::text(out, b" ")?;
     if columns::bit(marks, span(0, 0), row) == 0 {
-        write::text(b"-");
+        write::text(out, b"-")
     } else {
-        write::single(dist_at(dists, row));
+        write::single(out, dist_at(dists, row))
     }
 }
 
 // n rows from `first` on.
-fn dists_line(dists: &[f32], marks: &[u8], first: u32, n: u32) {
-    write::text(b"(dists");
+fn dists_line(out: &impl Print, dists: &[f32], marks: &[u8], first: u32, n: u32) -> io::Result<()> {
+    write::text(out, b"(dists")?;
     let mut k = 0;
     while k < n {
-        dist(dists, marks, first as usize + k as usize);
+        dist(out, dists, marks, first as usize + k as usize)?;
         k += 1;
     }
-    write::text(b")\n");
+    write::text(out, b")\n")
 }
 
-fn print_filled(words: &[u32], dists: &[f32], marks: &[u8], trip: u32) {
+fn print_filled(
+    out: &impl Print,
+    words: &[u32],
+    dists: &[f32],
+    marks: &[u8],
+    trip: u32,
+) -> io::Result<()> {
     let first = ids::cell(words, span(layout::TRIP_FIRST, 0), trip as usize);
     let n = ids::cell(words, span(layout::TRIP_COUNT, 0), trip as usize);
-    dists_line(dists, marks, first, n);
+    dists_line(out, dists, marks, first, n)
 }
 
 // What the operation refuses with, or 0.
@@ -61,6 +68,8 @@ fn refused(answer: Backfilled) -> u32 {
 
 // (backfill N)
 pub fn backfill(
+    out: &impl Print,
+    err: &impl Print,
     bytes: &[u8],
     words: &[u32],
     times: &[i64],
@@ -68,7 +77,7 @@ pub fn backfill(
     dists: &[f32],
     c: Case,
     trip: u32,
-) {
+) -> io::Result<()> {
     let mut dist_space = [0.0f32; 8192];
     let mut mark_space = [0u8; 8192];
     let filled: &mut [f32] = &mut dist_space;
@@ -86,8 +95,8 @@ pub fn backfill(
     );
     let n = refusal(refused(answer), trip, c.trips);
     if n == 0 {
-        print_filled(words, filled, marks, trip);
+        print_filled(out, words, filled, marks, trip)
     } else {
-        case_answers::print_refusal(n);
+        case_answers::print_refusal(out, err, n)
     }
 }

@@ -2,6 +2,7 @@
 use case_tables::{Case, layout, put, span};
 use line_answers::Projected;
 use probe_pools::{asked, write};
+use std::io;
 use tables::{IdRows, LegAsked, Stops, Tables, Trips};
 
 // Stops and trips of which a query of a trip's row is lent positions, rows and shapes, and no ids.
@@ -67,35 +68,42 @@ fn is_shaped(bytes: &[u8], trip: u32) -> bool {
     columns::bit(bytes, span(layout::TRIP_SHAPED, 0), trip as usize) != 0
 }
 
-fn vertex(word: u32) {
+fn vertex(out: &impl Print, word: u32) -> io::Result<()> {
     if word == 4294967295 {
-        write::text(b" -");
+        write::text(out, b" -")
     } else {
-        write::text(b" ");
-        write::count(word as u64);
+        write::text(out, b" ")?;
+        write::count(out, word as u64)
     }
 }
 
-fn vertices_line(vertices: &[u32], n: usize) {
-    write::text(b"(vertices");
+fn vertices_line(out: &impl Print, vertices: &[u32], n: usize) -> io::Result<()> {
+    write::text(out, b"(vertices")?;
     let mut k = 0;
     while k < n {
-        vertex(ids::word(vertices, k));
+        vertex(out, ids::word(vertices, k))?;
         k += 1;
     }
-    write::text(b")\n");
+    write::text(out, b")\n")
 }
 
-fn print_projected(bytes: &[u8], vertices: &[u32], trip: u32, answer: Projected) {
+fn print_projected(
+    out: &impl Print,
+    err: &impl Print,
+    bytes: &[u8],
+    vertices: &[u32],
+    trip: u32,
+    answer: Projected,
+) -> io::Result<()> {
     match answer {
         Projected::Rows(n) => {
             if is_shaped(bytes, trip) {
-                vertices_line(vertices, n);
+                vertices_line(out, vertices, n)
             } else {
-                case_answers::print_none();
+                case_answers::print_none(out)
             }
         }
-        Projected::Refused(number) => case_answers::print_refusal(number),
+        Projected::Refused(number) => case_answers::print_refusal(out, err, number),
     }
 }
 
@@ -116,6 +124,8 @@ fn project_asked(
 
 // (project N)
 pub fn project(
+    out: &impl Print,
+    err: &impl Print,
     bytes: &[u8],
     words: &mut [u32],
     times: &[i64],
@@ -123,10 +133,10 @@ pub fn project(
     dists: &[f32],
     c: Case,
     trip: u32,
-) {
+) -> io::Result<()> {
     let mut space = [0u32; 8192];
     let vertices: &mut [u32] = &mut space;
     put::word(words, asked::TRIP_ROW, 0, trip);
     let answer = project_asked(bytes, words, times, reals, dists, vertices, c);
-    print_projected(bytes, vertices, trip, answer);
+    print_projected(out, err, bytes, vertices, trip, answer)
 }

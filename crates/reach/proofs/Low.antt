@@ -21,7 +21,7 @@ use Rattle.arcs.specs.Arcs.{halve_of, four_times, atan_of, angle_of, turned_of, 
 use Rattle.arcs.proofs.Bounds.{InUnit, unit_within, on_within, coefficient_within, atan_within}
 use Rattle.sphere_lengths.specs.Length.{radius, way_of}
 use Rattle.reach.specs.Reach.{divisor, series, low_of, nearby}
-use Rattle.reach.proofs.Quotients.{div_falls}
+use Rattle.arcs.proofs.Quotients.{div_falls}
 
 -- ---- 1 / 2 ^ k, and two
 abbrev part : ℕ → Float

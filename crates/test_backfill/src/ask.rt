@@ -1,11 +1,18 @@
 // The answer to a question.
-use libc::STDOUT_FILENO;
 use line_answers::Backfilled;
+use std::io;
 use tables::{bytes_of, dists_of, reals_of, words_of};
 use trip_backfill::{backfill_trip, backfill_trips};
 
 // All trips where n is 0, and else trip n - 1 alone, of the tables that the words' head lays out.
-pub(crate) fn answer(bytes: &[u8], words: &[u32], reals: &[f64], dists: &[f32], n: u64) {
+pub(crate) fn answer(
+    out: &impl Print,
+    bytes: &[u8],
+    words: &[u32],
+    reals: &[f64],
+    dists: &[f32],
+    n: u64,
+) -> io::Result<()> {
     let mut dist = [0.0f32; 32];
     let mut measured = [0u8; 32];
     let told = backfilled(
@@ -19,13 +26,13 @@ pub(crate) fn answer(bytes: &[u8], words: &[u32], reals: &[f64], dists: &[f32], 
         &mut measured,
     );
     match told {
-        Backfilled::Rows(rows) => print(&dist, &measured, rows),
+        Backfilled::Rows(rows) => print(out, &dist, &measured, rows)?,
         Backfilled::Refused(number) => {
-            io::write_all(STDOUT_FILENO, b"refused ");
-            io::print_decimal(STDOUT_FILENO, number as u64);
+            out.write_all(b"refused ")?;
+            print!(out; "{number}")?;
         }
     }
-    io::write_all(STDOUT_FILENO, b"\n");
+    out.write_all(b"\n")
 }
 
 fn backfilled(
@@ -48,31 +55,31 @@ fn backfilled(
 }
 
 // The bits of so many distances.
-fn print(dist: &[f32], measured: &[u8], rows: usize) {
+fn print(out: &impl Print, dist: &[f32], measured: &[u8], rows: usize) -> io::Result<()> {
     let mut k = 0;
     while k < rows {
-        at(dist, measured, k);
+        at(out, dist, measured, k)?;
         k += 1;
     }
+    Ok(())
 }
 
 // Of row k.
-fn at(dist: &[f32], measured: &[u8], k: usize) {
+fn at(out: &impl Print, dist: &[f32], measured: &[u8], k: usize) -> io::Result<()> {
     if dist.len() <= k {
-        return;
+        return Ok(());
     }
     if measured.len() <= k {
-        return;
+        return Ok(());
     }
-    row(dist[k], measured[k]);
+    row(out, dist[k], measured[k])
 }
 
 // A distance's bits, or `-` where it is missing.
-fn row(dist: f32, measured: u8) {
+fn row(out: &impl Print, dist: f32, measured: u8) -> io::Result<()> {
     if measured == 0 {
-        io::write_all(STDOUT_FILENO, b"- ");
-        return;
+        return out.write_all(b"- ");
     }
-    io::print_decimal(STDOUT_FILENO, float_bits::bits_of_f32(dist) as u64);
-    io::write_all(STDOUT_FILENO, b" ");
+    print!(out; "{}", float_bits::bits_of_f32(dist))?;
+    out.write_all(b" ")
 }

@@ -13,64 +13,82 @@ mod put; // put.rt: numbers into pools
 mod script; // script.rt: the script's words
 
 use crate::script::Script;
-use libc::STDIN_FILENO;
+use input_bytes::read_full;
+use std::io;
 
-fn main() {
+fn main(rt: HostRuntime) -> io::Result<()> {
     let mut text = [0u8; 262144];
     let mut bytes = [0u8; 4096];
     let mut words = [0u32; 4096];
     let mut reals = [0.0f64; 4096];
     let mut dists = [0.0f32; 4096];
-    let n = io::read_full(STDIN_FILENO, &mut text);
-    replay(&mut bytes, &mut words, &mut reals, &mut dists, &text[..n]);
+    let n = read_full(&mut rt.stdin(), &mut text)?;
+    replay(
+        &rt,
+        &mut bytes,
+        &mut words,
+        &mut reals,
+        &mut dists,
+        &text[..n],
+    )
 }
 
-fn replay(bytes: &mut [u8], words: &mut [u32], reals: &mut [f64], dists: &mut [f32], text: &[u8]) {
+fn replay(
+    out: &impl Print,
+    bytes: &mut [u8],
+    words: &mut [u32],
+    reals: &mut [f64],
+    dists: &mut [f32],
+    text: &[u8],
+) -> io::Result<()> {
     let mut r = Script::new();
     let mut i = 0;
     while i < text.len() {
-        r = step(bytes, words, reals, dists, r, text[i]);
+        r = step(out, bytes, words, reals, dists, r, text[i])?;
         i += 1;
     }
+    Ok(())
 }
 
 // Reads a byte; a space or the end of a line ends a word.
 fn step(
+    out: &impl Print,
     bytes: &mut [u8],
     words: &mut [u32],
     reals: &mut [f64],
     dists: &mut [f32],
     read: Script,
     b: u8,
-) -> Script {
+) -> io::Result<Script> {
     if b == b' ' {
-        return act(bytes, words, reals, dists, read).next_word();
+        return Ok(act(out, bytes, words, reals, dists, read)?.next_word());
     }
     if b == b'\n' {
-        return act(bytes, words, reals, dists, read).next_word();
+        return Ok(act(out, bytes, words, reals, dists, read)?.next_word());
     }
-    read.spelled(b)
+    Ok(read.spelled(b))
 }
 
 // Does what a word says; one that is none, or a number too large, does nothing.
 fn act(
+    out: &impl Print,
     bytes: &mut [u8],
     words: &mut [u32],
     reals: &mut [f64],
     dists: &mut [f32],
     read: Script,
-) -> Script {
+) -> io::Result<Script> {
     let letter = read.letter;
     match letter {
-        b'b' | b'w' | b'r' | b'd' => read.placed(),
+        b'b' | b'w' | b'r' | b'd' => Ok(read.placed()),
         b'=' | b'x' => {
             put::one(bytes, words, reals, dists, read);
-            read.gone_on()
+            Ok(read.gone_on())
         }
         b'?' => {
-            ask::answer(bytes, words, reals, dists, read.number);
-            read
+            ask::answer(out, bytes, words, reals, dists, read.number)?;
+            Ok(read)
         }
-        _ => read,
+        _ => Ok(read),
     }
 }

@@ -1,21 +1,23 @@
 // The operations, and the answer to a question.
 use fault_scripts::Script;
-use libc::STDOUT_FILENO;
+use std::io;
 use tables::{bytes_of, dists_of, reals_of, times_of, words_of};
 
 // Prints the first refusal of the operation that the script's word says, or 0 where it has none. Operation 0 is
 // the bound of stop times, which no world here reaches.
 pub(crate) fn answer(
+    out: &impl Print,
+    err: &impl Print,
     bytes: &[u8],
     words: &[u32],
     times: &[i64],
     reals: &[f64],
     dists: &[f32],
     read: Script,
-) -> Script {
+) -> io::Result<Script> {
     let n = read.number;
     if 7 < n {
-        return read.fails(b"no such operation");
+        return read.fails(err, b"no such operation");
     }
     let refusal = first(
         bytes_of(bytes, worlds::pool(words, 0)),
@@ -26,9 +28,9 @@ pub(crate) fn answer(
         words,
         n,
     );
-    io::print_decimal(STDOUT_FILENO, refusal as u64);
-    io::write_all(STDOUT_FILENO, b"\n");
-    read
+    print!(out; "{refusal}")?;
+    out.write_all(b"\n")?;
+    Ok(read)
 }
 
 fn first(

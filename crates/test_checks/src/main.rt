@@ -18,9 +18,11 @@ ghost use Rattle.std.specs.Prelude.{◌≤◌, length};
 mod ask; // ask.rt: the operations, and the answer to a question
 
 use fault_scripts::Script;
-use libc::STDIN_FILENO;
+use input_bytes::read_full;
+use std::io;
+use std::io::Read;
 
-fn main() {
+fn main(rt: HostRuntime) -> io::Result<()> {
     let mut text = [0u8; 524288];
     let mut bytes = [0u8; 262144];
     let mut words = [0u32; 393216];
@@ -28,33 +30,56 @@ fn main() {
     let mut reals = [0.0f64; 131072];
     let mut dists = [0.0f32; 131072];
     read(
-        &mut text, &mut bytes, &mut words, &mut times, &mut reals, &mut dists,
-    );
+        &mut rt.stdin(),
+        &rt,
+        &rt.stderr(),
+        &mut text,
+        &mut bytes,
+        &mut words,
+        &mut times,
+        &mut reals,
+        &mut dists,
+    )
 }
 
 // Reads the script, and replays it.
 fn read(
+    stdin: &mut impl Read,
+    out: &impl Print,
+    err: &impl Print,
     text: &mut [u8],
     bytes: &mut [u8],
     words: &mut [u32],
     times: &mut [i64],
     reals: &mut [f64],
     dists: &mut [f32],
-) {
-    let n = io::read_full(STDIN_FILENO, text);
-    replay(bytes, words, times, reals, dists, &text[..n]);
+) -> io::Result<()> {
+    let n = read_full(stdin, text)?;
+    replay(out, err, bytes, words, times, reals, dists, &text[..n])
 }
 
 fn replay(
+    out: &impl Print,
+    err: &impl Print,
     bytes: &mut [u8],
     words: &mut [u32],
     times: &mut [i64],
     reals: &mut [f64],
     dists: &mut [f32],
     text: &[u8],
-) {
+) -> io::Result<()> {
     let end = line_end(text);
-    cases(bytes, words, times, reals, dists, &text[0..end], text);
+    cases(
+        out,
+        err,
+        bytes,
+        words,
+        times,
+        reals,
+        dists,
+        &text[0..end],
+        text,
+    )
 }
 
 // Where the first line ends: at its newline, or at the end of the text.
@@ -73,6 +98,8 @@ fn line_end(text: &[u8]) -> usize
 
 // Every line. The clean world is laid out again after each.
 fn cases(
+    out: &impl Print,
+    err: &impl Print,
     bytes: &mut [u8],
     words: &mut [u32],
     times: &mut [i64],
@@ -80,16 +107,21 @@ fn cases(
     dists: &mut [f32],
     clean: &[u8],
     text: &[u8],
-) {
+) -> io::Result<()> {
     let mut r = Script::new();
     let mut i = 0;
     while i < text.len() {
-        r = case_step(bytes, words, times, reals, dists, r, clean, text[i]);
+        r = case_step(
+            out, err, bytes, words, times, reals, dists, r, clean, text[i],
+        )?;
         i += 1;
     }
+    Ok(())
 }
 
 fn case_step(
+    out: &impl Print,
+    err: &impl Print,
     bytes: &mut [u8],
     words: &mut [u32],
     times: &mut [i64],
@@ -98,16 +130,18 @@ fn case_step(
     read: Script,
     clean: &[u8],
     b: u8,
-) -> Script {
+) -> io::Result<Script> {
     if b == b'\n' {
-        let r = step(bytes, words, times, reals, dists, read, b' ').next_line();
-        return line(bytes, words, times, reals, dists, r, clean);
+        let r = step(out, err, bytes, words, times, reals, dists, read, b' ')?.next_line();
+        return line(out, err, bytes, words, times, reals, dists, r, clean);
     }
-    step(bytes, words, times, reals, dists, read, b)
+    step(out, err, bytes, words, times, reals, dists, read, b)
 }
 
 // Does what a line says.
 fn line(
+    out: &impl Print,
+    err: &impl Print,
     bytes: &mut [u8],
     words: &mut [u32],
     times: &mut [i64],
@@ -115,18 +149,20 @@ fn line(
     dists: &mut [f32],
     read: Script,
     text: &[u8],
-) -> Script {
+) -> io::Result<Script> {
     let mut r = read;
     let mut i = 0;
     while i < text.len() {
-        r = step(bytes, words, times, reals, dists, r, text[i]);
+        r = step(out, err, bytes, words, times, reals, dists, r, text[i])?;
         i += 1;
     }
-    step(bytes, words, times, reals, dists, r, b' ')
+    step(out, err, bytes, words, times, reals, dists, r, b' ')
 }
 
 // Reads a byte of a line; a space ends a word.
 fn step(
+    out: &impl Print,
+    err: &impl Print,
     bytes: &mut [u8],
     words: &mut [u32],
     times: &mut [i64],
@@ -134,34 +170,36 @@ fn step(
     dists: &mut [f32],
     read: Script,
     b: u8,
-) -> Script {
+) -> io::Result<Script> {
     if read.wrong {
-        return read;
+        return Ok(read);
     }
     if b == b' ' {
-        return act(bytes, words, times, reals, dists, read).next_word();
+        return Ok(act(out, err, bytes, words, times, reals, dists, read)?.next_word());
     }
-    read.spelled(b)
+    read.spelled(err, b)
 }
 
 // Does what a word says.
 fn act(
+    out: &impl Print,
+    err: &impl Print,
     bytes: &mut [u8],
     words: &mut [u32],
     times: &mut [i64],
     reals: &mut [f64],
     dists: &mut [f32],
     read: Script,
-) -> Script {
+) -> io::Result<Script> {
     let letter = read.letter;
     match letter {
-        0 => read,
-        b'b' | b'w' | b't' | b'r' | b'd' => read.placed(),
-        b'=' | b'-' | b'x' => fault_scripts::one(bytes, words, times, reals, dists, read),
-        b's' => read.stepped(),
-        b'n' => fault_scripts::more(words, read),
-        b'i' => fault_scripts::ids(bytes, read),
-        b'?' => ask::answer(bytes, words, times, reals, dists, read),
-        _ => read.fails(b"no such word"),
+        0 => Ok(read),
+        b'b' | b'w' | b't' | b'r' | b'd' => Ok(read.placed()),
+        b'=' | b'-' | b'x' => fault_scripts::one(err, bytes, words, times, reals, dists, read),
+        b's' => Ok(read.stepped()),
+        b'n' => fault_scripts::more(err, words, read),
+        b'i' => fault_scripts::ids(err, bytes, read),
+        b'?' => ask::answer(out, err, bytes, words, times, reals, dists, read),
+        _ => read.fails(err, b"no such word"),
     }
 }

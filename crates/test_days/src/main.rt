@@ -3,40 +3,40 @@
 #![tactic(auto)]
 
 use days::ReadDate;
-use libc::{STDIN_FILENO, STDOUT_FILENO};
+use input_bytes::read_full;
+use std::io;
 
-fn main() {
+fn main(rt: HostRuntime) -> io::Result<()> {
     let mut space = [0u8; 16384];
     let input: &mut [u8] = &mut space;
-    let n = io::read_full(STDIN_FILENO, input);
+    let n = read_full(&mut rt.stdin(), input)?;
     let mut date: u32 = 0;
     let mut i = 0;
     while i < n {
         let b = input[i];
         if b == b'\n' {
-            answer(date);
+            answer(&rt, date)?;
             date = 0;
         } else {
             date = date % 10000000 * 10 + (b % 16) as u32;
         }
         i += 1;
     }
+    Ok(())
 }
 
-fn answer(date: u32) {
+fn answer(out: &impl Print, date: u32) -> io::Result<()> {
     match days::read_date(date) {
         ReadDate::Day(day) => {
             if day < 0 {
-                io::write_all(STDOUT_FILENO, b"-");
+                out.write_all(b"-")?;
             }
-            io::print_decimal(STDOUT_FILENO, size(day));
-            io::write_all(STDOUT_FILENO, b" ");
-            io::print_decimal(STDOUT_FILENO, day_counts::weekday(day) as u64);
-            io::write_all(STDOUT_FILENO, b"\n");
+            print!(out; "{}", size(day))?;
+            out.write_all(b" ")?;
+            print!(out; "{}", day_counts::weekday(day))?;
+            out.write_all(b"\n")
         }
-        ReadDate::NotADate => {
-            io::write_all(STDOUT_FILENO, b"refused 10\n");
-        }
+        ReadDate::NotADate => out.write_all(b"refused 10\n"),
     }
 }
 

@@ -3,25 +3,31 @@ ghost use Rattle.std.specs.Prelude.{◌<◌};
 
 use ids::Span;
 use journey_rules::JourneyLegs;
-use libc::STDOUT_FILENO;
 use point_columns::Drawing;
+use std::io;
 use tables::Points;
 
 // Draws a leg, or a journey, and writes the answer.
-pub(crate) fn answer(bytes: &[u8], words: &[u32], reals: &[f64], n: u64) {
+pub(crate) fn answer(
+    out: &impl Print,
+    bytes: &[u8],
+    words: &[u32],
+    reals: &[f64],
+    n: u64,
+) -> io::Result<()> {
     let mut lat_space = [0.0f64; 1024];
     let mut lon_space = [0.0f64; 1024];
     let lat: &mut [f64] = &mut lat_space;
     let lon: &mut [f64] = &mut lon_space;
     let room = ids::word(words, 2) as usize;
     if lat.len() < room {
-        return;
+        return Ok(());
     }
     if lon.len() < room {
-        return;
+        return Ok(());
     }
     let drawn = draw(bytes, words, reals, n, &mut lat[..room], &mut lon[..room]);
-    tell(lat, lon, drawn);
+    tell(out, lat, lon, drawn)
 }
 
 fn draw(
@@ -100,36 +106,37 @@ fn journey(
 }
 
 // Writes how many points there are, and each; or the number of the refusal.
-fn tell(lat: &[f64], lon: &[f64], drawn: Drawing) {
+fn tell(out: &impl Print, lat: &[f64], lon: &[f64], drawn: Drawing) -> io::Result<()> {
     match drawn {
         Drawing::Points(points) => {
-            tell_number(b"points ", points as u64);
-            tell_points(lat, lon, points);
+            tell_number(out, b"points ", points as u64)?;
+            tell_points(out, lat, lon, points)?;
         }
-        Drawing::Refused(number) => tell_number(b"refused ", number as u64),
+        Drawing::Refused(number) => tell_number(out, b"refused ", number as u64)?,
     }
-    io::write_all(STDOUT_FILENO, b"\n");
+    out.write_all(b"\n")
 }
 
-fn tell_number(what: &[u8], number: u64) {
-    io::write_all(STDOUT_FILENO, what);
-    io::print_decimal(STDOUT_FILENO, number);
+fn tell_number(out: &impl Print, what: &[u8], number: u64) -> io::Result<()> {
+    out.write_all(what)?;
+    print!(out; "{number}")
 }
 
-fn tell_points(lat: &[f64], lon: &[f64], points: usize) {
+fn tell_points(out: &impl Print, lat: &[f64], lon: &[f64], points: usize) -> io::Result<()> {
     let mut k = 0;
     while k < points {
-        tell_row(lat, k);
-        tell_row(lon, k);
+        tell_row(out, lat, k)?;
+        tell_row(out, lon, k)?;
         k += 1;
     }
+    Ok(())
 }
 
 // A space, and the bits of row k in hexadecimal.
-fn tell_row(column: &[f64], k: usize) {
+fn tell_row(out: &impl Print, column: &[f64], k: usize) -> io::Result<()> {
     if column.len() <= k {
-        return;
+        return Ok(());
     }
-    io::write_all(STDOUT_FILENO, b" ");
-    io::print_hex(STDOUT_FILENO, float_bits::bits_of_f64(column[k]), 16);
+    out.write_all(b" ")?;
+    print!(out; "{:016x}", float_bits::bits_of_f64(column[k]))
 }

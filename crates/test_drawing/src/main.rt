@@ -12,14 +12,15 @@ mod ask; // ask.rt: what is drawn
 mod script; // script.rt: a word of the text
 
 use crate::script::Script;
-use libc::STDIN_FILENO;
+use input_bytes::read_full;
+use std::io;
 
 // How much is read at a time, and how often.
 const CHUNK: usize = 16384;
 
 const CHUNKS: u32 = 64;
 
-fn main() {
+fn main(rt: HostRuntime) -> io::Result<()> {
     let mut text_space = [0u8; CHUNK];
     let mut byte_space = [0u8; 1024];
     let mut word_space = [0u32; 2048];
@@ -31,60 +32,75 @@ fn main() {
     let mut script = Script::new();
     let mut k = 0;
     while k < CHUNKS {
-        let n = io::read_full(STDIN_FILENO, text);
-        script = replay(bytes, words, reals, script, &text[..n]);
+        let n = read_full(&mut rt.stdin(), text)?;
+        script = replay(&rt, bytes, words, reals, script, &text[..n])?;
         k += 1;
     }
+    Ok(())
 }
 
 fn replay(
+    out: &impl Print,
     bytes: &mut [u8],
     words: &mut [u32],
     reals: &mut [f64],
     script: Script,
     text: &[u8],
-) -> Script {
+) -> io::Result<Script> {
     let mut s = script;
     let mut i = 0;
     while i < text.len() {
-        s = step(bytes, words, reals, s, text[i]);
+        s = step(out, bytes, words, reals, s, text[i])?;
         i += 1;
     }
-    s
+    Ok(s)
 }
 
 // Reads a byte; a space or a newline ends a word.
-fn step(bytes: &mut [u8], words: &mut [u32], reals: &mut [f64], s: Script, b: u8) -> Script {
+fn step(
+    out: &impl Print,
+    bytes: &mut [u8],
+    words: &mut [u32],
+    reals: &mut [f64],
+    s: Script,
+    b: u8,
+) -> io::Result<Script> {
     if b == b' ' {
-        return act(bytes, words, reals, s);
+        return act(out, bytes, words, reals, s);
     }
     if b == b'\n' {
-        return act(bytes, words, reals, s);
+        return act(out, bytes, words, reals, s);
     }
-    s.spelled(b)
+    Ok(s.spelled(b))
 }
 
 // Does what a word says. A place that a pool does not have takes nothing.
-fn act(bytes: &mut [u8], words: &mut [u32], reals: &mut [f64], s: Script) -> Script {
+fn act(
+    out: &impl Print,
+    bytes: &mut [u8],
+    words: &mut [u32],
+    reals: &mut [f64],
+    s: Script,
+) -> io::Result<Script> {
     let letter = s.letter;
     match letter {
         b'b' => {
             put_byte(bytes, s.bytes, (s.number % 256) as u8);
-            s.after(1, 0, 0)
+            Ok(s.after(1, 0, 0))
         }
         b'w' => {
             put_word(words, s.words, (s.number % 4294967296) as u32);
-            s.after(0, 1, 0)
+            Ok(s.after(0, 1, 0))
         }
         b'r' => {
             put_real(reals, s.reals, float_bits::f64_of(s.number));
-            s.after(0, 0, 1)
+            Ok(s.after(0, 0, 1))
         }
         b'?' => {
-            ask::answer(bytes, words, reals, s.number);
-            Script::new()
+            ask::answer(out, bytes, words, reals, s.number)?;
+            Ok(Script::new())
         }
-        _ => s.after(0, 0, 0),
+        _ => Ok(s.after(0, 0, 0)),
     }
 }
 

@@ -21,8 +21,9 @@ mod ask; // ask.rt: the questions
 mod read; // read.rt: the numbers of a line of text
 mod tell; // tell.rt: the answers
 
-use libc::STDIN_FILENO;
+use input_bytes::read_full;
 use projection::Cursor;
+use std::io;
 
 // How many vertices a line has so far, and where its trip has got to.
 #[derive(Clone, Copy)]
@@ -31,22 +32,23 @@ struct Asked {
     cursor: Cursor,
 }
 
-fn main() {
+fn main(rt: HostRuntime) -> io::Result<()> {
     let mut text = [0u8; 131072];
     let mut lat = [0.0f64; 64];
     let mut lon = [0.0f64; 64];
-    let n = io::read_full(STDIN_FILENO, &mut text);
-    replay(&mut lat, &mut lon, &text[..n]);
+    let n = read_full(&mut rt.stdin(), &mut text)?;
+    replay(&rt, &mut lat, &mut lon, &text[..n])
 }
 
-fn replay(lat: &mut [f64], lon: &mut [f64], text: &[u8]) {
+fn replay(out: &impl Print, lat: &mut [f64], lon: &mut [f64], text: &[u8]) -> io::Result<()> {
     let mut asked = new_line();
     let mut at = 0;
     while at < text.len() {
         let end = questions::line_end(text, at);
-        asked = step(lat, lon, asked, &text[at..end]);
+        asked = step(out, lat, lon, asked, &text[at..end])?;
         at = end + 1;
     }
+    Ok(())
 }
 
 fn new_line() -> Asked {
@@ -59,33 +61,45 @@ fn new_trip(n: usize) -> Asked {
 }
 
 // Reads a line of the text.
-fn step(lat: &mut [f64], lon: &mut [f64], asked: Asked, words: &[u8]) -> Asked {
+fn step(
+    out: &impl Print,
+    lat: &mut [f64],
+    lon: &mut [f64],
+    asked: Asked,
+    words: &[u8],
+) -> io::Result<Asked> {
     let n = asked.n;
     if texts::begins(words, b"line") {
-        return new_line();
+        return Ok(new_line());
     }
     if texts::begins(words, b"vertex ") {
         put(lat, n, read::double(words, 7));
         put(lon, n, read::double(words, 24));
-        return new_trip(std::num::wrapping_add_usize(n, 1));
+        return Ok(new_trip(std::num::wrapping_add_usize(n, 1)));
     }
     if texts::begins(words, b"trip") {
-        return new_trip(n);
+        return Ok(new_trip(n));
     }
     if texts::begins(words, b"stop") {
-        return stopped(first(lat, n), first(lon, n), asked, words);
+        return stopped(out, first(lat, n), first(lon, n), asked, words);
     }
-    ask::answer(first(lat, n), first(lon, n), words);
-    asked
+    ask::answer(out, first(lat, n), first(lon, n), words)?;
+    Ok(asked)
 }
 
 // Takes the trip's next stop.
-fn stopped(lat: &[f64], lon: &[f64], asked: Asked, words: &[u8]) -> Asked {
+fn stopped(
+    out: &impl Print,
+    lat: &[f64],
+    lon: &[f64],
+    asked: Asked,
+    words: &[u8],
+) -> io::Result<Asked> {
     let passed = asked.cursor.pass(lat, lon, read::position(words, 5));
     let vertex = passed.vertex;
-    tell::found(vertex);
+    tell::found(out, vertex)?;
     let cursor = passed.cursor;
-    Asked { n: asked.n, cursor }
+    Ok(Asked { n: asked.n, cursor })
 }
 
 // A place that a column does not have takes nothing.

@@ -1,58 +1,58 @@
 // The answers: a vertex as a number, floats as their bits in hexadecimal, `none` where there is none.
 use ids::Found;
-use libc::STDOUT_FILENO;
+use std::io;
 use stretches::Interpolated;
 use unit_scales::Calibrated;
 
-pub(crate) fn found(vertex: Found) {
+pub(crate) fn found(out: &impl Print, vertex: Found) -> io::Result<()> {
     match vertex {
-        Found::At(k) => number(k),
-        Found::Nothing => none(),
+        Found::At(k) => number(out, k),
+        Found::Nothing => none(out),
     }
 }
 
-pub(crate) fn number(k: usize) {
-    io::print_decimal(STDOUT_FILENO, k as u64);
-    text(b"\n");
+pub(crate) fn number(out: &impl Print, k: usize) -> io::Result<()> {
+    print!(out; "{k}")?;
+    text(out, b"\n")
 }
 
-pub(crate) fn double(x: f64) {
-    digits(x);
-    text(b"\n");
+pub(crate) fn double(out: &impl Print, x: f64) -> io::Result<()> {
+    digits(out, x)?;
+    text(out, b"\n")
 }
 
-pub(crate) fn calibrated(answer: Calibrated) {
+pub(crate) fn calibrated(out: &impl Print, answer: Calibrated) -> io::Result<()> {
     match answer {
         Calibrated::By(affine) => {
-            digits(affine.a);
-            text(b" ");
-            double(affine.b);
+            digits(out, affine.a)?;
+            text(out, b" ")?;
+            double(out, affine.b)
         }
-        Calibrated::Nothing => none(),
+        Calibrated::Nothing => none(out),
     }
 }
 
-pub(crate) fn place(answer: Interpolated) {
+pub(crate) fn place(out: &impl Print, answer: Interpolated) -> io::Result<()> {
     match answer {
         Interpolated::At(drawn) => {
-            digits(drawn.lat);
-            text(b" ");
-            digits(drawn.lon);
-            text(b" ");
-            double(drawn.bearing);
+            digits(out, drawn.lat)?;
+            text(out, b" ")?;
+            digits(out, drawn.lon)?;
+            text(out, b" ")?;
+            double(out, drawn.bearing)
         }
-        Interpolated::Nothing => none(),
+        Interpolated::Nothing => none(out),
     }
 }
 
-fn none() {
-    text(b"none\n");
+fn none(out: &impl Print) -> io::Result<()> {
+    text(out, b"none\n")
 }
 
-fn digits(x: f64) {
-    io::print_hex(STDOUT_FILENO, float_bits::bits_of_f64(x), 16);
+fn digits(out: &impl Print, x: f64) -> io::Result<()> {
+    print!(out; "{:016x}", float_bits::bits_of_f64(x))
 }
 
-pub(crate) fn text(s: &[u8]) {
-    io::write_all(STDOUT_FILENO, s);
+pub(crate) fn text(out: &impl Print, s: &[u8]) -> io::Result<()> {
+    out.write_all(s)
 }

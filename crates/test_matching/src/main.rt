@@ -11,14 +11,15 @@ mod put; // put.rt: numbers and ids into pools
 mod rows; // rows.rt: a line's fields, and where each goes
 
 use crate::rows::Row;
-use libc::STDIN_FILENO;
+use input_bytes::read_full;
+use std::io;
 
 // How much is read at a time, and how often.
 const CHUNK: usize = 16384;
 
 const CHUNKS: u32 = 64;
 
-fn main() {
+fn main(rt: HostRuntime) -> io::Result<()> {
     let mut text_space = [0u8; CHUNK];
     let mut byte_space = [0u8; 16384];
     let mut word_space = [0u32; 8192];
@@ -32,8 +33,9 @@ fn main() {
     let mut row = Row::new(put::IDS);
     let mut k = 0;
     while k < CHUNKS {
-        let n = io::read_full(STDIN_FILENO, text);
+        let n = read_full(&mut rt.stdin(), text)?;
         row = replay(
+            &rt,
             bytes,
             words,
             times,
@@ -41,12 +43,14 @@ fn main() {
             &dist_space,
             row,
             &text[..n],
-        );
+        )?;
         k += 1;
     }
+    Ok(())
 }
 
 fn replay(
+    out: &impl Print,
     bytes: &mut [u8],
     words: &mut [u32],
     times: &mut [i64],
@@ -54,18 +58,19 @@ fn replay(
     dists: &[f32],
     row: Row,
     text: &[u8],
-) -> Row {
+) -> io::Result<Row> {
     let mut r = row;
     let mut i = 0;
     while i < text.len() {
-        r = step(bytes, words, times, reals, dists, r, text[i]);
+        r = step(out, bytes, words, times, reals, dists, r, text[i])?;
         i += 1;
     }
-    r
+    Ok(r)
 }
 
 // Reads a byte.
 fn step(
+    out: &impl Print,
     bytes: &mut [u8],
     words: &mut [u32],
     times: &mut [i64],
@@ -73,22 +78,22 @@ fn step(
     dists: &[f32],
     row: Row,
     b: u8,
-) -> Row {
+) -> io::Result<Row> {
     if b == b'\n' {
-        return line_end(bytes, words, times, reals, dists, row);
+        return line_end(out, bytes, words, times, reals, dists, row);
     }
     if row.letter == 0 {
         let first = rows::first_column(b);
-        return row.of_table(b, first, put::count(words, first));
+        return Ok(row.of_table(b, first, put::count(words, first)));
     }
     if b == b'\t' {
-        return field_end(bytes, words, times, row);
+        return Ok(field_end(bytes, words, times, row));
     }
     if row.is_id() {
         put::byte(bytes, row.end, b);
-        return row.longer();
+        return Ok(row.longer());
     }
-    row.digit(b)
+    Ok(row.digit(b))
 }
 
 // Puts the field that was read, and goes on to the next.
@@ -102,21 +107,22 @@ fn field_end(bytes: &mut [u8], words: &mut [u32], times: &mut [i64], row: Row) -
 
 // After a row: counts it, and answers it where it is a question. After an empty line: forgets all rows.
 fn line_end(
+    out: &impl Print,
     bytes: &mut [u8],
     words: &mut [u32],
     times: &mut [i64],
     reals: &[f64],
     dists: &[f32],
     row: Row,
-) -> Row {
+) -> io::Result<Row> {
     if row.letter == 0 {
         put::counts(words, 0, put::COLUMNS, 0);
-        return Row::new(put::IDS);
+        return Ok(Row::new(put::IDS));
     }
     let whole = field_end(bytes, words, times, row);
     let rows = std::num::wrapping_add_u32(whole.row, 1);
     put::counts(words, whole.first, whole.column, rows);
-    let left = ask::answered(bytes, words, times, reals, dists, row.letter, rows);
+    let left = ask::answered(out, bytes, words, times, reals, dists, row.letter, rows)?;
     put::counts(words, whole.first, whole.column, left);
-    Row::new(whole.end)
+    Ok(Row::new(whole.end))
 }

@@ -3,66 +3,74 @@
 // answer for each. The file stdout has the Rust's answers, which the gate compares.
 #![tactic(auto)]
 
-use libc::{STDIN_FILENO, STDOUT_FILENO};
+use input_bytes::read_full;
 use measure::Measured;
+use std::io;
 use texts::begins;
 
-fn main() {
-    let mut space = io::large_buffer();
-    let n = io::read_full(STDIN_FILENO, &mut space);
-    replay(&space[..n]);
+fn main(rt: HostRuntime) -> io::Result<()> {
+    let mut space = [0u8; 65536];
+    let n = read_full(&mut rt.stdin(), &mut space)?;
+    replay(&rt, &space[..n])
 }
 
 // An answer for each line.
-fn replay(text: &[u8]) {
+fn replay(out: &impl Print, text: &[u8]) -> io::Result<()> {
     let mut at = 0;
     while at < text.len() {
         let end = questions::line_end(text, at);
-        answer(&text[at..end]);
+        answer(out, &text[at..end])?;
         at = end + 1;
     }
+    Ok(())
 }
 
-fn answer(line: &[u8]) {
+fn answer(out: &impl Print, line: &[u8]) -> io::Result<()> {
     if begins(line, b"haversine ") {
-        measured(measure::haversine_m(arg(line, 10), arg(line, 27), arg(line, 44), arg(line, 61)));
+        measured(
+            out,
+            measure::haversine_m(arg(line, 10), arg(line, 27), arg(line, 44), arg(line, 61)),
+        )
     } else if begins(line, b"bearing ") {
-        measured(measure::bearing_deg(arg(line, 8), arg(line, 25), arg(line, 42), arg(line, 59)));
+        measured(
+            out,
+            measure::bearing_deg(arg(line, 8), arg(line, 25), arg(line, 42), arg(line, 59)),
+        )
     } else if begins(line, b"narrow ") {
-        single(float_bits::narrow(arg(line, 7)));
+        single(out, float_bits::narrow(arg(line, 7)))
     } else if begins(line, b"atan2 ") {
-        double(arcs::atan2(arg(line, 6), arg(line, 23)));
+        double(out, arcs::atan2(arg(line, 6), arg(line, 23)))
     } else if begins(line, b"hypot ") {
-        double(maths::hypot(arg(line, 6), arg(line, 23)));
+        double(out, maths::hypot(arg(line, 6), arg(line, 23)))
     } else if begins(line, b"max ") {
-        double(ieee::max_of(arg(line, 4), arg(line, 21)));
+        double(out, ieee::max_of(arg(line, 4), arg(line, 21)))
     } else {
-        of_one(line);
+        of_one(out, line)
     }
 }
 
 // The functions of one float.
-fn of_one(line: &[u8]) {
+fn of_one(out: &impl Print, line: &[u8]) -> io::Result<()> {
     if begins(line, b"root ") {
-        double(roots::root(arg(line, 5)));
+        double(out, roots::root(arg(line, 5)))
     } else if begins(line, b"sin ") {
-        double(maths::sin(arg(line, 4)));
+        double(out, maths::sin(arg(line, 4)))
     } else if begins(line, b"cos ") {
-        double(maths::cos(arg(line, 4)));
+        double(out, maths::cos(arg(line, 4)))
     } else if begins(line, b"atan ") {
-        double(arcs::atan(arg(line, 5)));
+        double(out, arcs::atan(arg(line, 5)))
     } else if begins(line, b"asin ") {
-        double(arcs::asin(arg(line, 5)));
+        double(out, arcs::asin(arg(line, 5)))
     } else if begins(line, b"radians ") {
-        double(maths::radians(arg(line, 8)));
+        double(out, maths::radians(arg(line, 8)))
     } else if begins(line, b"degrees ") {
-        double(maths::degrees(arg(line, 8)));
+        double(out, maths::degrees(arg(line, 8)))
     } else if begins(line, b"abs ") {
-        double(ieee::abs(arg(line, 4)));
+        double(out, ieee::abs(arg(line, 4)))
     } else if begins(line, b"clamp01 ") {
-        double(ieee::clamp01(arg(line, 8)));
+        double(out, ieee::clamp01(arg(line, 8)))
     } else {
-        io::write_all(STDOUT_FILENO, b"no such function\n");
+        out.write_all(b"no such function\n")
     }
 }
 
@@ -71,21 +79,19 @@ fn arg(line: &[u8], at: usize) -> f64 {
     float_bits::f64_of(questions::number(line, at, 16))
 }
 
-fn measured(m: Measured) {
+fn measured(out: &impl Print, m: Measured) -> io::Result<()> {
     match m {
-        Measured::Value(x) => double(x),
-        Measured::OffGlobe => {
-            io::write_all(STDOUT_FILENO, b"refused 3\n");
-        }
+        Measured::Value(x) => double(out, x),
+        Measured::OffGlobe => out.write_all(b"refused 3\n"),
     }
 }
 
-fn double(x: f64) {
-    io::print_hex(STDOUT_FILENO, float_bits::bits_of_f64(x), 16);
-    io::write_all(STDOUT_FILENO, b"\n");
+fn double(out: &impl Print, x: f64) -> io::Result<()> {
+    print!(out; "{:016x}", float_bits::bits_of_f64(x))?;
+    out.write_all(b"\n")
 }
 
-fn single(x: f32) {
-    io::print_hex(STDOUT_FILENO, float_bits::bits_of_f32(x) as u64, 8);
-    io::write_all(STDOUT_FILENO, b"\n");
+fn single(out: &impl Print, x: f32) -> io::Result<()> {
+    print!(out; "{:08x}", float_bits::bits_of_f32(x))?;
+    out.write_all(b"\n")
 }

@@ -1,0 +1,11 @@
+-- `backfill::rows::any_missing` meets its contract. The loop's invariant: what holds of all flags holds of those from k on.
+use Rattle.std.proofs.Common.{◌≡◌, ◌-◌, ◌≤◌, length, drop, sym, refl, ◌∙◌, arith, eq-eqb, ne_eqb}
+use Rattle.backfill.specs.Trip.{any_of, is_missing}
+use Rattle.backfill.proofs.Flags.{any_hit, any_miss, any_over}
+use Rattle.backfill.proofs.rows.any_missing.Given as goal
+
+abbrev pub invariant-loop-k : goal.invariant-loop-k
+invariant-loop-k l = (l.k ≤ length l.measured) × (any_of is_missing l.measured ≡ any_of is_missing (drop l.k l.measured))
+
+abbrev pub decreases-loop-k : goal.decreases-loop-k
+decreases-loop-k l = length l.measured - l.k

@@ -1,0 +1,8 @@
+-- `exports_backfill::zebumorn_backfill_trips` meets its contract: backfill's answer, told.
+use borrow.Author.Rules.{rules}
+use mathlib.Core.Path.{ap, ◌∙◌}
+use Rattle.measure.specs.Answer.{number_of}
+use Rattle.exports_backfill.proofs.zebumorn_backfill_trips.Goals as goal
+
+pub returns : goal.returns
+returns c = let e = c.backfill_trips-filled.ensures in record { value = c.told_backfill.ensures ∙ ap number_of e.result_value; dist_after = e.dist_after; measured_after = e.measured_after }

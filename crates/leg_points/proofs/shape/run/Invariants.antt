@@ -1,0 +1,15 @@
+-- `leg_points::shape::run` meets its contract. The loop's invariant: what is left of the rows leads the cursor to where all of them do.
+use borrow.Author.Rules.{rules}
+use Prim.Native.Nat.{◌+◌, ◌-◌}
+use native.Mathlib.Omega.{arith}
+use mathlib.Core.Path.{◌∙◌}
+use Rattle.lengths.specs.Line.{line_of}
+use Rattle.trip_rows.specs.Rows.{row_position}
+use Rattle.leg_points.proofs.Positions.{Run, starts, goes_on, ends}
+use Rattle.leg_points.proofs.shape.run.Given as goal
+
+abbrev pub invariant-loop-k : goal.invariant-loop-k
+invariant-loop-k l = Run (line_of l.lat l.lon) (row_position l.bytes l.words l.reals l.stops l.calls) l.at (l.first + l.skip) l.n l.vertex l.k
+
+abbrev pub decreases-loop-k : goal.decreases-loop-k
+decreases-loop-k l = l.n - l.k

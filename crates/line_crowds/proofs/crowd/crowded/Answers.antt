@@ -1,0 +1,14 @@
+use borrow.Author.Rules.{rules}
+use borrow.Author.Tests.{le-ltb, lt-ltb}
+use Rattle.line_crowds.specs.Crowds.{is_crowded}
+use Rattle.departure_fits.proofs.away_of.Reads as away-of-reads
+use Rattle.line_crowds.proofs.crowd.has_beside.Reads as has-beside-reads
+use Rattle.line_crowds.proofs.crowd.crowded.Goals as goal
+
+pub returns-then-away_of-le60 : goal.returns-then-away_of-le60
+unfolding is_crowded
+returns-then-away_of-le60 c = rw (← c.requires.fit_value, le-ltb _ _ (rw c.away_of.ensures at c.if-away_of-le60.true))
+
+pub returns : goal.returns
+unfolding is_crowded
+returns c = rw (← c.requires.fit_value, lt-ltb _ _ (rw c.away_of.ensures at c.if-away_of-le60.false)) c.has_beside.ensures

@@ -1,0 +1,19 @@
+use borrow.Author.Rules.{rules}
+use mathlib.Core.Path.{◌∙◌, sym}
+use Rattle.matching.specs.Matching.{match_of}
+use Rattle.matching.proofs.whole.by_time.Reads as by-time-reads
+use Rattle.trip_tails.proofs.by_tail.Reads as by-tail-reads
+use Rattle.named_trips.proofs.by_id.Reads as by-id-reads
+use Rattle.matching.proofs.whole.resolve.Goals as goal
+
+pub returns-in-At : goal.returns-in-At
+unfolding match_of
+returns-in-At c = rw (sym c.by_id.ensures ∙ c.in-At.is)
+
+pub returns-in-At-by_time : goal.returns-in-At-by_time
+unfolding match_of
+returns-in-At-by_time c = rw (sym c.by_id.ensures ∙ c.in-Nothing.is, sym c.by_time.ensures ∙ c.in-At-by_time.is)
+
+pub returns : goal.returns
+unfolding match_of
+returns c = rw (sym c.by_id.ensures ∙ c.in-Nothing.is, sym c.by_time.ensures ∙ c.in-Nothing-by_time.is) c.by_tail.ensures

@@ -1,0 +1,18 @@
+use borrow.Author.Rules.{rules}
+use mathlib.Core.Path.{◌≡◌, ◌∙◌}
+use mathlib.Core.List.{[]}
+use Rattle.tables.specs.Pools.{pools}
+use Rattle.refusals.specs.Refuse.{refusal_of}
+use Rattle.refusals.proofs.Folds.{over, then}
+use Rattle.record_refusals.specs.Verdict.{lent_causes}
+use Rattle.record_refusals.proofs.check_lent.Goals as goal
+
+pub returns : goal.returns
+unfolding lent_causes
+returns c =
+    let s = c.args in
+    let e : c.points_within.result ≡ refusal_of (pools s.bytes.now s.words.now [] s.reals.now []) (lent_causes c.chart-b.result s.l) =
+    then _ _ _ _ _ _ c.stops-best1.ensures
+    (then _ _ _ _ _ _ c.points_within.ensures
+    (over _ _)) in
+    e ∙ rw c.chart-b.ensures

@@ -1,0 +1,17 @@
+-- `routes::route::inside` meets its contract.
+use mathlib.Core.Path.{◌≡◌, refl}
+use lib.Ieee.{binary64, div, of_bits, of_int}
+use Rattle.routes.specs.Route.{nano, inside_of}
+use Rattle.routes.proofs.route.inside.Goals as goal
+
+nano_is : of_bits binary64 0x3e112e0be826d695 ≡ nano
+unfolding nano of_bits of_int div
+nano_is = refl
+
+pub returns-then-route : goal.returns-then-route
+unfolding inside_of of_bits of_int
+returns-then-route c = rw c.if-route.true
+
+pub returns : goal.returns
+unfolding inside_of of_bits of_int
+returns c = rw (c.if-route.false, ← nano_is) c.stretch_at.ensures

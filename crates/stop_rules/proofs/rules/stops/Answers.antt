@@ -1,0 +1,12 @@
+use Rattle.refusals.proofs.Folds.{first, several}
+use Rattle.stop_rules.proofs.rules.stops.Goals as goal
+
+pub returns : goal.returns
+returns c =
+    first _ _ _ _ _ _ c.tested-best1.ensures
+    (first _ _ _ _ _ _ c.tested-best2.ensures
+    (first _ _ _ _ _ _ c.tested-best3.ensures
+    (first _ _ _ _ _ _ c.tested-best4.ensures
+    (first _ _ _ _ _ _ c.tested-best5.ensures
+    (several _ _ _ _ _ _ c.all_named-best6.ensures
+    c.named.ensures)))))
