@@ -21,7 +21,7 @@
  *   libexports_line.a               zebumorn_interpolate, zebumorn_calibrate, zebumorn_snap_scale
  *   libexports_measure.a            zebumorn_haversine_m, zebumorn_bearing_deg
  *
- * `rt staticlib NAME` proves a crate and makes libNAME.a of it; link that with -lm. */
+ * `tools/staticlib NAME` proves a crate and makes libNAME.a of it; link that with -lm. */
 #ifndef ZEBUMORN_H
 #define ZEBUMORN_H
 

@@ -1,4 +1,4 @@
-//! Links the archive that `rt staticlib exports_estimate` makes, from ZEBUMORN_LIB or the repository's target/staticlib.
+//! Links the archive that `tools/staticlib exports_estimate` makes, from ZEBUMORN_LIB or the repository's target/staticlib.
 use std::env;
 use std::path::{Path, PathBuf};
 
@@ -9,7 +9,7 @@ fn main() {
     println!("cargo:rerun-if-changed={}", archive.display());
     assert!(
         archive.is_file(),
-        "{} is missing: make it with `rt staticlib exports_estimate`, or name its folder in ZEBUMORN_LIB",
+        "{} is missing: make it with `tools/staticlib exports_estimate`, or name its folder in ZEBUMORN_LIB",
         archive.display()
     );
     println!("cargo:rustc-link-search=native={}", folder.display());

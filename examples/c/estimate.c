@@ -1,6 +1,6 @@
 /* Where a ferry is, halfway in time between two calls: two stops on the equator, a degree apart.
  *
- *     rt staticlib exports_estimate
+ *     tools/staticlib exports_estimate
  *     cc -Iinclude examples/c/estimate.c target/staticlib/libexports_estimate.a -lm -o /tmp/estimate && /tmp/estimate */
 #include <stdio.h>
 

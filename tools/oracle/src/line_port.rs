@@ -1,4 +1,4 @@
-//! The port's side of the line: the functions of target/staticlib/liboracle_line_c.a, on two columns.
+//! The port's side of the line: the functions of target/staticlib/liboracle_line.a, on two columns.
 #![allow(dead_code)]
 
 mod names {
