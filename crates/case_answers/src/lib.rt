@@ -10,12 +10,12 @@ pub fn print_none(out: &impl Print) -> io::Result<()> {
     out.write_all(b"(none)\n")
 }
 
-// A refusal; what it is given for goes to standard error.
+// A refusal; then, to standard error, what it is given for: so who closes that still gets the number.
 pub fn print_refusal(out: &impl Print, err: &impl Print, number: u32) -> io::Result<()> {
-    say_refusal(err, number)?;
     out.write_all(b"(refused ")?;
     print!(out; "{number}")?;
-    out.write_all(b")\n")
+    out.write_all(b")\n")?;
+    say_refusal(err, number)
 }
 
 // An id as a case has it.
@@ -94,13 +94,13 @@ pub fn print_fault(
     form: Form,
     why: Why,
 ) -> io::Result<()> {
+    print_refusal(out, err, 11)?;
     say(err, b"line ")?;
     print!(err; "{line}")?;
     say(err, b": ")?;
     say_name(err, form)?;
     say_why(err, why)?;
-    say(err, b"\n")?;
-    print_refusal(out, err, 11)
+    say(err, b"\n")
 }
 
 // The name of a form.

@@ -1,4 +1,2 @@
--- `Lists`: laws of lists that are changed row by row. `Lent`: a row of elements that is lent as a slice for a call, and comes back. `Cases`: branches in a walk.
+-- `Lists`: laws of lists that are changed row by row.
 pub mod Lists
-pub mod Lent
-pub mod Cases
