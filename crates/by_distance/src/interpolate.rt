@@ -30,6 +30,7 @@ fn drawn_over(lat: &[f64], lon: &[f64], spanned: Spanned, frac: f64) -> Interpol
 }
 
 // Between two distances in metres. None on a line of fewer than two vertices, or over a short span.
+#[tactic(auto, unfolding(crate::specs::Interpolate::by_dist))]
 pub fn interpolate_shape_by_dist(
     lat: &[f64],
     lon: &[f64],
