@@ -1,11 +1,9 @@
 -- The trip that a ref names by an alias.
-use Rattle.std.specs.Prelude.{ℕ, cond, List, [], ◌∷◌, ◌++◌}
+use Rattle.std.specs.Prelude.{ℕ, cond, List, [], ◌∷◌, ◌++◌, Option, Some, None}
 use Rattle.ids.specs.First.{or_else}
 use Rattle.ids.specs.Pool.{id_of}
 use Rattle.ids.specs.Rows.{row_of, GoodIds}
 use Rattle.text_folds.specs.Folds.{prefix_of}
-use Rattle.ids.specs.declared.lookup.Found.{Found}
-use Rattle.ids.specs.declared.lookup.Found.TheVariants.{At, Nothing}
 use Rattle.key_parts.specs.Keys.{raw_of, without_loc}
 use Rattle.refs.specs.Refs.{journey_id_of}
 use Rattle.uuids.specs.Uuids.{is_uuid}
@@ -41,15 +39,15 @@ module _ (bytes words : List ℕ) where
 
   module _ (tripkeys : IdRows) (aliases : Aliases) where
     -- the trip whose id the row found has
-    abbrev pub named_at : Found → Found
-    named_at (At k) = trip_of bytes words tripkeys (id_of bytes words aliases.trip k)
-    named_at Nothing = Nothing
+    abbrev pub named_at : Option ℕ → Option ℕ
+    named_at (Some k) = trip_of bytes words tripkeys (id_of bytes words aliases.trip k)
+    named_at None = None
 
     -- the trip that an alias stands for
-    unfoldable pub alias_trip : List ℕ → Found
+    unfoldable pub alias_trip : List ℕ → Option ℕ
     alias_trip key = named_at (row_of (id_of bytes words aliases.id) aliases.id.starts.n key)
 
     -- the trip of the first key that stands for one
-    unfoldable pub first_trip : List (List ℕ) → Found
-    first_trip [] = Nothing
+    unfoldable pub first_trip : List (List ℕ) → Option ℕ
+    first_trip [] = None
     first_trip (key ∷ keys) = or_else (alias_trip key) (first_trip keys)

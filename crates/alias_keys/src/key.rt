@@ -3,7 +3,6 @@ ghost use Rattle.std.specs.Prelude.{◌≡◌, ◌++◌};
 ghost use Rattle.ids.specs.First.{or_else};
 ghost use Rattle.alias_keys.specs.Aliases.{Known, alias_trip, first_trip, uuid_keys, local_keys};
 
-use ids::Found;
 use tables::{Aliases, IdRows};
 use trip_ids::by_key;
 
@@ -13,23 +12,23 @@ pub fn or_alias(
     words: &[u32],
     tripkeys: IdRows,
     aliases: Aliases,
-    found: Found,
+    found: Option<usize>,
     a: &[u8],
     b: &[u8],
     c: &[u8],
-) -> Found
+) -> Option<usize>
     requires { Known bytes.now words.now tripkeys aliases }
     ensures { result ≡ or_else found (alias_trip bytes.now words.now tripkeys aliases (a.now ++ (b.now ++ c.now))) }
 {
     let id = aliases.id;
     let trip = aliases.trip;
     match found {
-        Found::At(k) => return Found::At(k),
-        Found::Nothing => {}
+        Some(k) => return Some(k),
+        None => {}
     }
     match keys::find_joined(bytes, words, id, b"", a, b, c) {
-        Found::At(k) => by_key(bytes, words, tripkeys, ids::id(bytes, words, trip, k)),
-        Found::Nothing => Found::Nothing,
+        Some(k) => by_key(bytes, words, tripkeys, ids::id(bytes, words, trip, k)),
+        None => None,
     }
 }
 
@@ -39,9 +38,9 @@ pub fn or_uuid(
     words: &[u32],
     tripkeys: IdRows,
     aliases: Aliases,
-    found: Found,
+    found: Option<usize>,
     j: &[u8],
-) -> Found
+) -> Option<usize>
     requires { Known bytes.now words.now tripkeys aliases }
     ensures { result ≡ or_else found (first_trip bytes.now words.now tripkeys aliases (uuid_keys j.now)) }
 {
@@ -86,9 +85,9 @@ pub fn or_local(
     words: &[u32],
     tripkeys: IdRows,
     aliases: Aliases,
-    found: Found,
+    found: Option<usize>,
     j: &[u8],
-) -> Found
+) -> Option<usize>
     requires { Known bytes.now words.now tripkeys aliases }
     ensures { result ≡ or_else found (first_trip bytes.now words.now tripkeys aliases (local_keys j.now)) }
 {

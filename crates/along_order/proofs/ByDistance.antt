@@ -1,4 +1,5 @@
 -- Between two distances a larger fraction gives no earlier place. Assumes nothing.
+use Rattle.std.specs.Prelude.{Option, Some, None}
 use Prim.Native.Nat.{◌*◌, ◌^◌}
 use native.Mathlib.Omega.{arith}
 use mathlib.Core.Path.{◌≡◌, subst}
@@ -23,8 +24,6 @@ use Rattle.ways.specs.declared.way.Way.TheVariants.{With, Against}
 use Rattle.spans.specs.Span.{half, spread, span_of, target_of, feed_metres}
 use Rattle.by_distance.specs.Interpolate.{spot_over}
 use Rattle.spans.specs.declared.span.Span.{Span}
-use Rattle.spans.specs.declared.span.Spanned.{Spanned}
-use Rattle.spans.specs.declared.span.Spanned.TheVariants.{Over, Short}
 use Rattle.along_order.specs.Order.{NoEarlier}
 use Rattle.along_order.specs.Granted.{Lengths, Distance}
 use Rattle.along_order.proofs.Clamp.{clamp_low, clamp_high, clamp_mono, micro_pos, Aim}
@@ -104,8 +103,8 @@ module _ (lo hi : Float) (L : Distance lo) (H : Distance hi) (ordered : T (le lo
 
 -- ---- the span of two distances, either way round
 
-abbrev Goes : List Point → Spanned → Type 0
-Goes line s = (span : Span) → s ≡ Over span → (f g : Float) → T (le f g) → NoEarlier (whole_of line) span.way (spot_over line span f) (spot_over line span g)
+abbrev Goes : List Point → Option Span → Type 0
+Goes line s = (span : Span) → s ≡ Some span → (f g : Float) → T (le f g) → NoEarlier (whole_of line) span.way (spot_over line span f) (spot_over line span g)
 
 spread_goes : (line : List Point) (lo hi : Float) (way : Way) → Distance lo → Distance hi → T (le lo hi) → Lengths line (whole_of line) → Goes line (spread lo hi way)
 unfolding spread
@@ -117,7 +116,7 @@ spread_goes line lo hi way L H o granted = go (lt (abs_of (sub binary64 hi lo)) 
     moves : (span : Span) → the ≡ span → (f g : Float) → T (le f g) → NoEarlier (whole_of line) span.way (spot_over line span f) (spot_over line span g)
     moves span e f g h = subst (λ (s : Span). NoEarlier (whole_of line) s.way (spot_over line s f) (spot_over line s g)) e (over_mono lo hi L H o line way granted f g h)
 
-    go : (b : Bool) → Goes line (cond b Short (Over the))
+    go : (b : Bool) → Goes line (cond b None (Some the))
     go true span e f g h = absurd (true≢false (cc))
     go false span e f g h = moves span (cc) f g h
 

@@ -1,11 +1,28 @@
 -- An answer where nothing is refused, and a refusal. Assumes nothing.
 use Prim.Native.Nat.{ℕ, ◌<◌, ◌≤◌}
-use mathlib.Core.Path.{◌≡◌, refl}
+use native.Mathlib.Omega.{arith}
+use mathlib.Core.Path.{◌≡◌, refl, ap, ◌∙◌}
 use mathlib.Core.List.{List, ◌++◌}
 use borrow.Author.Tests.{eq-eqb, ne_eqb, lt-ltb, le-ltb}
 use lib.ListN.{length, drop}
-use Rattle.measure.specs.Answer.{Answer, refused, given}
+use Rattle.refusals.specs.declared.refusal.Refusal.{Refusal}
+use Rattle.refusals.specs.declared.refusal.Refusal.TheVariants.{Columns, Count, Position, Order, Index, Moment, Text, Number, Room, Date}
+use Rattle.refusals.specs.Refusal.{refusal_number}
+use Rattle.refusals.specs.Answer.{Answer, refused, given}
 use Rattle.answers.specs.Answers.{unless_refused, or_short, unless_kept}
+
+-- a refusal's number is not 0
+pub numbered : (r : Refusal) → refusal_number r ≡ 0 → ⊥
+numbered Columns e = omega arith
+numbered Count e = omega arith
+numbered Position e = omega arith
+numbered Order e = omega arith
+numbered Index e = omega arith
+numbered Moment e = omega arith
+numbered Text e = omega arith
+numbered Number e = omega arith
+numbered Room e = omega arith
+numbered Date e = omega arith
 
 module _ {A : Type 0} (n : ℕ) (x : A) where
   pub told : n ≡ 0 → given x ≡ unless_refused n x
@@ -13,6 +30,10 @@ module _ {A : Type 0} (n : ℕ) (x : A) where
 
   pub denied : (n ≡ 0 → ⊥) → refused n ≡ unless_refused n x
   denied h = rw (ne_eqb _ _ h)
+
+  -- of a check, of which n is the number
+  pub refused_by : (r : Refusal) → refusal_number r ≡ n → refused (refusal_number r) ≡ unless_refused n x
+  refused_by r e = ap refused e ∙ denied (λ z. numbered r (e ∙ z))
 
 module _ (n rows room : ℕ) where
   pub fits : n ≡ 0 → rows ≤ room → or_short n rows room ≡ 0

@@ -1,6 +1,6 @@
 -- What a published operation answers, and what it writes.
 use Rattle.std.specs.Prelude.{ℕ, cond, List, ◌++◌, eqb, ltb, length, drop}
-use Rattle.measure.specs.Answer.{Answer, refused, given}
+use Rattle.refusals.specs.Answer.{Answer, refused, given}
 
 -- a refusal's number, or, where there is none, the value
 abbrev pub unless_refused : {A : Type 0} → ℕ → A → Answer A

@@ -1,17 +1,17 @@
 -- What is so of each part that is asked of where no cause of it is there. A number after `at` is a cause's place in the part's list.
--- `Rattle.refusals.proofs.Facts` has what each kind of fact says, and `counted` for the part's columns and counts.
+-- `Rattle.verdicts.proofs.Facts` has what each kind of fact says, and `counted` for the part's columns and counts.
 use Prim.Native.Nat.{ℕ}
 use mathlib.Core.Bool.{false}
 use lib.IntN.{pos, negsuc}
 use lib.ListN.{drop, length}
 use Rattle.tables.specs.Pools.{Pools}
-use Rattle.refusals.specs.Refuse.{always, where_set}
+use Rattle.tables.specs.Marks.{always, where_set}
 use Rattle.tables.specs.declared.bounds.Bounds.{Bounds}
 use Rattle.tables.specs.declared.lent.Journey.{Journey}
 use Rattle.tables.specs.declared.lent.LegAsked.{LegAsked}
 use Rattle.tables.specs.declared.lent.Service.{Service}
-use Rattle.refusals.proofs.Passed.{Clear, clear_drop, clear_part}
-use Rattle.refusals.proofs.Facts.{Between, moments, offsets, Dates, dates, IdsHold, ids_hold, Sized, counted}
+use Rattle.verdicts.proofs.Passed.{Clear, clear_drop, clear_part}
+use Rattle.verdicts.proofs.Facts.{Between, moments, offsets, Dates, dates, IdsHold, ids_hold, Sized, counted}
 use Rattle.asked_rules.specs.Parts.{journey_causes, service_causes, leg_asked_causes}
 
 module _ (p : Pools) where

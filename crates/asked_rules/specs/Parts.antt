@@ -1,6 +1,7 @@
 -- The causes of each part that is asked of: a refusal's number, and the fault that it is given for. A table has as many rows as the column that `n` is taken of.
 use Rattle.std.specs.Prelude.{false, List, [], ◌∷◌, ◌++◌}
-use Rattle.refusals.specs.Refuse.{Cause, always, where_set, cause, id_causes}
+use Rattle.verdicts.specs.Refuse.{Cause, cause, id_causes}
+use Rattle.tables.specs.Marks.{always, where_set}
 use Rattle.tables.specs.declared.bounds.Bounds.{Bounds}
 use Rattle.tables.specs.declared.mark.Pool.TheVariants.{Bytes, Words, Times}
 use Rattle.faults.specs.declared.fault.Test.TheVariants.{Column, Moment, Offset, NoDate}

@@ -5,11 +5,11 @@ use mathlib.Core.Path.{◌≡◌, refl, sym, subst, ◌∙◌}
 use mathlib.Core.Logic.{inl, inr}
 use borrow.Author.Tests.{ne_eqb}
 use Rattle.ids.proofs.ByteOrder.{clash}
-use Rattle.measure.specs.Answer.{given}
+use Rattle.refusals.specs.Answer.{given}
 use Rattle.answers.specs.Answers.{unless_refused}
 use Rattle.tables.specs.Pools.{Pools}
 use Rattle.tables.specs.Bounds.{chart_bounds}
-use Rattle.refusals.specs.Refuse.{refusal_of}
+use Rattle.verdicts.specs.Refuse.{refusal_of}
 use Rattle.tables.specs.declared.lent.Tables.{Tables}
 use Rattle.checks.specs.Operations.{estimate_causes}
 use Rattle.timeline.specs.Turn.{time_at}

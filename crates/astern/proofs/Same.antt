@@ -10,7 +10,7 @@ use Rattle.ids.specs.declared.pool.Span.{Span}
 use Rattle.ids.proofs.ByteOrder.{clash}
 use Rattle.tables.specs.Pools.{Pools, part_of}
 use Rattle.tables.specs.Bounds.{chart_bounds}
-use Rattle.refusals.specs.Refuse.{refusal_of}
+use Rattle.verdicts.specs.Refuse.{refusal_of}
 use Rattle.tables.specs.declared.lent.Tables.{Tables}
 use Rattle.tables.specs.declared.lent.Updates.{Updates}
 use Rattle.checks.specs.Operations.{estimate_causes}

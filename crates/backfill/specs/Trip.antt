@@ -1,8 +1,8 @@
 -- Backfill of a trip's rows: the line of its shape, where its stops are, and its rows. Definitions only.
-use Rattle.std.specs.Prelude.{ℕ, Bool, false, cond, not, ◌||◌, List, [], ◌∷◌, length, ◌==◌, nat_lt}
+use Rattle.std.specs.Prelude.{ℕ, Bool, cond, not, List, length, ◌==◌, nat_lt, Option}
+use Rattle.std.specs.List.{list_any}
 use Rattle.lengths.specs.declared.line.Point.{Point}
 use Rattle.projection.specs.Projection.{projection_of}
-use Rattle.projection.specs.declared.cursor.Position.{Position}
 use Rattle.calibration.specs.Samples.{samples_affine}
 use Rattle.row_distances.specs.Rows.{marks_in}
 use Rattle.backfill.specs.Samples.{feed_unit, samples_in}
@@ -18,15 +18,10 @@ is_missing m = m == 0
 abbrev pub is_measured : ℕ → Bool
 is_measured m = not (m == 0)
 
--- some of the flags is such
-unfoldable pub any_of : (ℕ → Bool) → List ℕ → Bool
-any_of p [] = false
-any_of p (m ∷ ms) = p m || any_of p ms
-
 -- the unit that missing distances are written in: metres where all are missing, and else the feed's own, as the samples tell it
-unfoldable pub unit_of : List Point → List Position → List Distance → Unit
-unit_of line stops rows = cond (any_of is_measured (marks_in rows)) (feed_unit (samples_affine line (samples_in stops rows))) Metres
+unfoldable pub unit_of : List Point → List (Option Point) → List Distance → Unit
+unit_of line stops rows = cond (list_any is_measured (marks_in rows)) (feed_unit (samples_affine line (samples_in stops rows))) Metres
 
 -- a trip's rows after backfill: on a line of fewer than two points they are as they were
-unfoldable pub backfill_of : List Point → List Position → List Distance → List Distance
+unfoldable pub backfill_of : List Point → List (Option Point) → List Distance → List Distance
 backfill_of line stops rows = cond (nat_lt (length line) 2) rows (fill_all line (unit_of line stops rows) (projection_of line stops) rows)

@@ -6,11 +6,12 @@ ghost use Rattle.row_distances.specs.Rows.{rows_of};
 ghost use Rattle.backfill.specs.Samples.{added_end, next_ends, ends_of, samples_in};
 
 use calibration::Sample;
-use projection::Position;
+use lengths::Point;
 use row_distances::Distance;
 use tables::{StopTimes, Stops};
 use trip_rows::row_position;
 
+// Three cases, each with an answer of its own: one sample alone tells no unit.
 #[derive(Clone, Copy)]
 pub enum Ends {
     Nothing,
@@ -30,10 +31,11 @@ fn add(ends: Ends, s: Sample) -> Ends
 }
 
 // With one more row.
-fn pass(ends: Ends, stop: Position, row: Distance) -> Ends
+#[tactic(auto, unfolding(crate::specs::Samples::next_ends))]
+fn pass(ends: Ends, stop: Option<Point>, row: Distance) -> Ends
     ensures { result ≡ next_ends ends stop row }
 {
-    let Position::Known(point) = stop else {
+    let Some(point) = stop else {
         return ends;
     };
     if row.measured == 0 {
@@ -65,10 +67,8 @@ pub(crate) fn ends_of(
     ensures { result ≡ ends_of (samples_in (positions_from (row_position bytes.now words.now reals.now stops calls) first n) (rows_of dist.now measured.now)) }
 {
     let from = first as usize;
-    let rows = n as usize;
     let mut ends = Ends::Nothing;
-    let mut k = 0;
-    while k < rows {
+    for k in 0..n as usize {
         let row = Distance {
             dist: dist[k],
             measured: measured[k],
@@ -78,7 +78,6 @@ pub(crate) fn ends_of(
             row_position(bytes, words, reals, stops, calls, from + k),
             row,
         );
-        k += 1;
     }
     ends
 }

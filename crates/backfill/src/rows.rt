@@ -1,11 +1,12 @@
 // The rows of one trip.
 ghost use Rattle.std.specs.Prelude.{◌≡◌, length};
+ghost use Rattle.std.specs.List.{list_any};
 ghost use Rattle.lengths.specs.Line.{line_of};
 ghost use Rattle.trip_rows.specs.Rows.{row_position};
 ghost use Rattle.trip_vertices.specs.Vertices.{positions_from};
 ghost use Rattle.row_distances.specs.Rows.{rows_of, dists_in, marks_in};
 ghost use Rattle.backfill.specs.Samples.{feed_unit, ends_unit};
-ghost use Rattle.backfill.specs.Trip.{any_of, is_missing, is_measured, unit_of, backfill_of};
+ghost use Rattle.backfill.specs.Trip.{is_missing, is_measured, unit_of, backfill_of};
 
 use crate::ends::{Ends, ends_of};
 use calibration::shape_dist_affine;
@@ -13,43 +14,29 @@ use filled_rows::fill;
 use lengths::vertices;
 use row_distances::Unit;
 use tables::{StopTimes, Stops};
-use unit_scales::Calibrated;
+use unit_scales::Affine;
 
 // Whether some row has no distance.
 fn any_missing(measured: &[u8]) -> bool
-    ensures { result ≡ any_of is_missing measured.now }
+    ensures { result ≡ list_any is_missing measured.now }
 {
-    let mut k = 0;
-    while k < measured.len() {
-        if measured[k] == 0 {
-            return true;
-        }
-        k += 1;
-    }
-    false
+    measured.iter().any(|m| *m == 0)
 }
 
 // Whether some row has one.
 fn any_measured(measured: &[u8]) -> bool
-    ensures { result ≡ any_of is_measured measured.now }
+    ensures { result ≡ list_any is_measured measured.now }
 {
-    let mut k = 0;
-    while k < measured.len() {
-        if measured[k] != 0 {
-            return true;
-        }
-        k += 1;
-    }
-    false
+    measured.iter().any(|m| *m != 0)
 }
 
 // The unit that a calibration is.
-fn told(c: Calibrated) -> Unit
+fn told(c: Option<Affine>) -> Unit
     ensures { result ≡ feed_unit c }
 {
     match c {
-        Calibrated::By(k) => Unit::Feed(k),
-        Calibrated::Nothing => Unit::Unknown,
+        Some(k) => Unit::Feed(k),
+        None => Unit::Unknown,
     }
 }
 

@@ -1,4 +1,5 @@
 -- The best of rows. Assumes nothing.
+use Rattle.std.specs.Prelude.{Option, Some, None}
 use Prim.Native.Nat.{ℕ, zero, suc, ◌+◌, ◌<◌, ◌≤◌}
 use native.Mathlib.Omega.{arith}
 use native.Mathlib.Nat.{eq-or-lt_of_le, le_of_suc-le-suc}
@@ -7,8 +8,6 @@ use mathlib.Core.Logic.{⊎_elim}
 use mathlib.Core.Bool.{Bool, true, false, cond}
 use borrow.Author.Tests.{ltb-true, ltb-false}
 use lib.Dec.{ltb}
-use Rattle.ids.specs.declared.lookup.Found.{Found}
-use Rattle.ids.specs.declared.lookup.Found.TheVariants.{At, Nothing}
 use Rattle.ids.proofs.ByteOrder.{clash}
 use Rattle.best_rows.specs.Serving.{better, best_below}
 
@@ -23,19 +22,19 @@ module _ (score : ℕ → ℕ) where
     pub greatest : (k : ℕ) → k < n → score k ≤ score b
     pub before : (k : ℕ) → k < b → score k < score b
 
-  none_better : (f : Found) (n : ℕ) → better score f n ≡ Nothing → ⊥
-  none_better (At b) n e = go (ltb (score b) (score n)) e where
-    go : (s : Bool) → cond s (At n) (At b) ≡ Nothing → ⊥
+  none_better : (f : Option ℕ) (n : ℕ) → better score f n ≡ None → ⊥
+  none_better (Some b) n e = go (ltb (score b) (score n)) e where
+    go : (s : Bool) → cond s (Some n) (Some b) ≡ None → ⊥
     go true q = clash (cc)
     go false q = clash (cc)
-  none_better Nothing n e = clash (cc)
+  none_better None n e = clash (cc)
 
-  pub best_none : (n : ℕ) → best_below score n ≡ Nothing → n ≡ 0
+  pub best_none : (n : ℕ) → best_below score n ≡ None → n ≡ 0
   unfolding best_below
   best_none zero e = refl
   best_none (suc n) e = absurd (none_better (best_below score n) n e)
 
-  pick : (n a b : ℕ) → Best n a → (s : Bool) → ltb (score a) (score n) ≡ s → cond s (At n) (At a) ≡ At b → Best (suc n) b
+  pick : (n a b : ℕ) → Best n a → (s : Bool) → ltb (score a) (score n) ≡ s → cond s (Some n) (Some a) ≡ Some b → Best (suc n) b
   pick n a b h true t e =
       let q : n ≡ b = cc in
       let u : score a < score n = ltb-true (score a) (score n) t in
@@ -62,10 +61,10 @@ module _ (score : ℕ → ℕ) where
     before = λ k l. absurd (omega arith);
   }
 
-  pub best_is : (n b : ℕ) → best_below score n ≡ At b → Best n b
+  pub best_is : (n b : ℕ) → best_below score n ≡ Some b → Best n b
   unfolding best_below
   best_is zero b e = clash (cc)
   best_is (suc n) b e = go (best_below score n) refl (best_is n) e where
-    go : (f : Found) → best_below score n ≡ f → ((a : ℕ) → best_below score n ≡ At a → Best n a) → better score f n ≡ At b → Best (suc n) b
-    go (At a) q h r = pick n a b (h a q) (ltb (score a) (score n)) refl r
-    go Nothing q h r = only n b (best_none n q) (cc)
+    go : (f : Option ℕ) → best_below score n ≡ f → ((a : ℕ) → best_below score n ≡ Some a → Best n a) → better score f n ≡ Some b → Best (suc n) b
+    go (Some a) q h r = pick n a b (h a q) (ltb (score a) (score n)) refl r
+    go None q h r = only n b (best_none n q) (cc)

@@ -1,19 +1,17 @@
 -- The row of the updates that serves best as the only stop.
-use Rattle.std.specs.Prelude.{ℕ, zero, suc, ◌+◌, Bool, ◌||◌, cond, List, ltb}
+use Rattle.std.specs.Prelude.{ℕ, zero, suc, ◌+◌, Bool, ◌||◌, cond, List, ltb, Option, Some, None}
 use Rattle.ids.specs.Pool.{cell_of}
-use Rattle.ids.specs.declared.lookup.Found.{Found}
-use Rattle.ids.specs.declared.lookup.Found.TheVariants.{At, Nothing}
 use Rattle.tables.specs.declared.lent.Updates.{Updates}
 use Rattle.update_rows.specs.Updates.{is_set, is_timed}
 
 -- the best so far or, where its score is greater, row k
-abbrev pub better : (ℕ → ℕ) → Found → ℕ → Found
-better score (At b) k = cond (ltb (score b) (score k)) (At k) (At b)
-better score Nothing k = At k
+abbrev pub better : (ℕ → ℕ) → Option ℕ → ℕ → Option ℕ
+better score (Some b) k = cond (ltb (score b) (score k)) (Some k) (Some b)
+better score None k = Some k
 
 -- the row of the greatest score, the first where several have it
-unfoldable pub best_below : (ℕ → ℕ) → ℕ → Found
-best_below score zero = Nothing
+unfoldable pub best_below : (ℕ → ℕ) → ℕ → Option ℕ
+best_below score zero = None
 best_below score (suc n) = better score (best_below score n) n
 
 module _ (bytes : List ℕ) (u : Updates) where
@@ -26,5 +24,5 @@ module _ (bytes : List ℕ) (u : Updates) where
   score_of words k = cond (has_signal k) 1000000 0 + cell_of words u.sequence k
 
   -- the row that serves best; none where there are no updates
-  unfoldable pub best_row : List ℕ → Found
+  unfoldable pub best_row : List ℕ → Option ℕ
   best_row words = best_below (score_of words) u.sequence.n

@@ -2,26 +2,21 @@
 ghost use Rattle.std.specs.Prelude.{◌≡◌};
 ghost use Rattle.best_rows.specs.Serving.{better, has_signal, score_of, best_row};
 
-use ids::Found;
 use tables::Updates;
 use update_rows::{is_set, is_timed};
 
 // Whether row k has a time or a delay.
+#[tactic(auto, unfolding(crate::specs::Serving::has_signal))]
 fn has_signal(bytes: &[u8], u: Updates, k: usize) -> bool
     ensures { result ≡ has_signal bytes.now u k }
 {
     let arrivals = u.arrdelayed;
     let departures = u.depdelayed;
-    if is_timed(bytes, u, k) {
-        return true;
-    }
-    if is_set(bytes, arrivals, k) {
-        return true;
-    }
-    is_set(bytes, departures, k)
+    is_timed(bytes, u, k) || is_set(bytes, arrivals, k) || is_set(bytes, departures, k)
 }
 
 // A million where row k has a time or a delay, and its sequence.
+#[tactic(auto, unfolding(crate::specs::Serving::score_of))]
 fn score(bytes: &[u8], words: &[u32], u: Updates, k: usize) -> u64
     ensures { result ≡ score_of bytes.now u words.now k }
 {
@@ -33,31 +28,35 @@ fn score(bytes: &[u8], words: &[u32], u: Updates, k: usize) -> u64
 }
 
 // The best so far or, where its score is greater, row k.
-fn better_of(bytes: &[u8], words: &[u32], u: Updates, best: Found, k: usize) -> Found
+fn better_of(
+    bytes: &[u8],
+    words: &[u32],
+    u: Updates,
+    best: Option<usize>,
+    k: usize,
+) -> Option<usize>
     ensures { result ≡ better (score_of bytes.now u words.now) best k }
 {
     match best {
-        Found::At(b) => {
+        Some(b) => {
             if score(bytes, words, u, b) < score(bytes, words, u, k) {
-                return Found::At(k);
+                return Some(k);
             }
             best
         }
-        Found::Nothing => Found::At(k),
+        None => Some(k),
     }
 }
 
 // The row of the greatest score, the first where several have it; none where there are no updates.
-pub fn best_row(bytes: &[u8], words: &[u32], u: Updates) -> Found
+#[tactic(auto, using(crate::proofs::Bests::best_next), unfolding(crate::specs::Serving::best_row, crate::specs::Serving::best_below))]
+pub fn best_row(bytes: &[u8], words: &[u32], u: Updates) -> Option<usize>
     ensures { result ≡ best_row bytes.now u words.now }
 {
     let sequence = u.sequence;
-    let n = sequence.n as usize;
-    let mut best = Found::Nothing;
-    let mut k = 0;
-    while k < n {
+    let mut best = None;
+    for k in 0..sequence.n as usize {
         best = better_of(bytes, words, u, best, k);
-        k += 1;
     }
     best
 }

@@ -6,8 +6,8 @@ ghost use Rattle.by_distance.specs.Interpolate.{spot_over, drawn_over, by_dist, 
 use first_stretch::stretch_at;
 use lengths::vertices;
 use line_parts::whole;
-use spans::{Span, Spanned, feed_metres, span_of, target};
-use stretches::{Interpolated, Spot, draw};
+use spans::{Span, feed_metres, span_of, target};
+use stretches::{Drawn, Spot, draw};
 
 // Where a span is at a fraction of it in sailing direction.
 pub fn spot_over(lat: &[f64], lon: &[f64], span: Span, frac: f64) -> Spot
@@ -17,15 +17,15 @@ pub fn spot_over(lat: &[f64], lon: &[f64], span: Span, frac: f64) -> Spot
 }
 
 // The position there, if the span is not short.
-fn drawn_over(lat: &[f64], lon: &[f64], spanned: Spanned, frac: f64) -> Interpolated
+fn drawn_over(lat: &[f64], lon: &[f64], spanned: Option<Span>, frac: f64) -> Option<Drawn>
     ensures { result ≡ drawn_over (line_of lat.now lon.now) spanned frac }
 {
     match spanned {
-        Spanned::Over(span) => {
+        Some(span) => {
             let spot = spot_over(lat, lon, span, frac);
-            Interpolated::At(draw(lat, lon, whole(lat, lon), spot))
+            Some(draw(lat, lon, whole(lat, lon), spot))
         }
-        Spanned::Short => Interpolated::Nothing,
+        None => None,
     }
 }
 
@@ -37,16 +37,18 @@ pub fn interpolate_shape_by_dist(
     d0: f32,
     d1: f32,
     frac: f64,
-) -> Interpolated
+) -> Option<Drawn>
     ensures { result ≡ by_dist (line_of lat.now lon.now) d0 d1 frac }
 {
     if vertices(lat, lon) < 2 {
-        return Interpolated::Nothing;
+        None
+    } else {
+        drawn_over(lat, lon, span_of(d0, d1), frac)
     }
-    drawn_over(lat, lon, span_of(d0, d1), frac)
 }
 
 // Between two distances of a feed, with the calibration a + b·d.
+#[tactic(auto, unfolding(crate::specs::Interpolate::by_feed_dist))]
 pub fn interpolate_shape_by_feed_dist(
     lat: &[f64],
     lon: &[f64],
@@ -55,7 +57,7 @@ pub fn interpolate_shape_by_feed_dist(
     frac: f64,
     a: f64,
     b: f64,
-) -> Interpolated
+) -> Option<Drawn>
     ensures { result ≡ by_feed_dist (line_of lat.now lon.now) d0 d1 frac a b }
 {
     let m0 = feed_metres(a, b, d0);

@@ -1,5 +1,5 @@
 -- What is so of each calendar table where no cause of it is there. A number after `at` is a cause's place in the part's list.
--- `Rattle.refusals.proofs.Facts` has what each kind of fact says, and `counted` for the part's columns and counts.
+-- `Rattle.verdicts.proofs.Facts` has what each kind of fact says, and `counted` for the part's columns and counts.
 use Prim.Native.Nat.{ℕ}
 use mathlib.Core.Bool.{false}
 use lib.ListN.{drop, length}
@@ -8,13 +8,13 @@ use Rattle.ids.specs.Rows.{Ascending}
 use Rattle.column_order.specs.declared.order.Key.TheVariants.{Dated}
 use Rattle.column_order.specs.declared.order.Key.TheVariants.{Ids as KeyIds}
 use Rattle.tables.specs.Pools.{Pools}
-use Rattle.refusals.specs.Refuse.{always}
+use Rattle.tables.specs.Marks.{always}
 use Rattle.tables.specs.declared.bounds.Bounds.{Bounds}
 use Rattle.tables.specs.declared.lent.Calendars.{Calendars}
 use Rattle.tables.specs.declared.lent.Exceptions.{Exceptions}
 use Rattle.tables.specs.declared.lent.Ranges.{Ranges}
-use Rattle.refusals.proofs.Passed.{Clear, clear_drop, clear_part}
-use Rattle.refusals.proofs.Facts.{Dates, dates, Ascend, ascend, by_id, IdsHold, ids_hold, Sized, counted}
+use Rattle.verdicts.proofs.Passed.{Clear, clear_drop, clear_part}
+use Rattle.verdicts.proofs.Facts.{Dates, dates, Ascend, ascend, by_id, IdsHold, ids_hold, Sized, counted}
 use Rattle.calendar_rules.specs.Parts.{calendars_causes, ranges_causes, exceptions_causes}
 
 module _ (p : Pools) where

@@ -2,7 +2,8 @@
 use Rattle.std.specs.Prelude.{false, List, [], ◌∷◌, ◌++◌}
 use Rattle.column_order.specs.declared.order.Key.TheVariants.{Id, Dated}
 use Rattle.column_order.specs.declared.order.Key.TheVariants.{Ids as KeyIds}
-use Rattle.refusals.specs.Refuse.{Cause, always, cause, id_causes}
+use Rattle.verdicts.specs.Refuse.{Cause, cause, id_causes}
+use Rattle.tables.specs.Marks.{always}
 use Rattle.tables.specs.declared.bounds.Bounds.{Bounds}
 use Rattle.tables.specs.declared.mark.Pool.TheVariants.{Bytes, Words}
 use Rattle.faults.specs.declared.fault.Test.TheVariants.{Column, Over, Unsorted, NoDate}

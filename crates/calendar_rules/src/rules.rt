@@ -1,101 +1,75 @@
 // The rules of calendars, ranges and exceptions.
 ghost use Rattle.std.specs.Prelude.{◌≡◌};
-ghost use Rattle.tables.specs.Pools.{pools};
-ghost use Rattle.refusals.specs.Refuse.{least_of};
+ghost use Rattle.tables.specs.Pools.{pools_of};
+ghost use Rattle.verdicts.specs.Refuse.{least_of};
+ghost use Rattle.verdicts.specs.Verdict.{least};
 ghost use Rattle.calendar_rules.specs.Parts.{calendars_causes, ranges_causes, exceptions_causes};
 
 use column_order::Key;
 use faults::Test;
-use refusals::{all_named, tested};
-use tables::{Bounds, Calendars, Exceptions, Pool, Ranges};
+use refusals::Refusal;
+use tables::{Bounds, Calendars, Exceptions, Lent, Pool, Ranges};
+use verdicts::Verdict;
 
 // The feeds that have a calendar.
-pub fn calendars(
-    bytes: &[u8],
-    words: &[u32],
-    times: &[i64],
-    reals: &[f64],
-    dists: &[f32],
-    best: u32,
-    b: Bounds,
-    c: Calendars,
-) -> u32
-    ensures { result ≡ least_of (pools bytes.now words.now times.now reals.now dists.now) best (calendars_causes b c) }
+pub fn calendars(verdict: Verdict, lent: &Lent, b: Bounds, c: Calendars) -> Verdict
+    ensures { least result ≡ least_of (pools_of lent.now) (least verdict) (calendars_causes b c) }
 {
-    let feed = c.feed;
-    let n = feed.starts.n;
-    let many = Test::Over(n, b.others);
-    let order = Test::Unsorted(Key::Id(feed), n);
-    let best1 = all_named(bytes, words, times, reals, dists, best, feed, n, b.id);
-    let best2 = tested(bytes, words, times, reals, dists, best1, 2, many);
-    tested(bytes, words, times, reals, dists, best2, 4, order)
+    let n = c.feed.starts.n;
+    verdict
+        .test_all_ids(lent, c.feed, n, b.id)
+        .test(lent, Refusal::Count, Test::Over(n, b.others))
+        .test(lent, Refusal::Order, Test::Unsorted(Key::Id(c.feed), n))
 }
 
 // The ranges of services.
-pub fn ranges(
-    bytes: &[u8],
-    words: &[u32],
-    times: &[i64],
-    reals: &[f64],
-    dists: &[f32],
-    best: u32,
-    b: Bounds,
-    g: Ranges,
-) -> u32
-    ensures { result ≡ least_of (pools bytes.now words.now times.now reals.now dists.now) best (ranges_causes b g) }
+pub fn ranges(verdict: Verdict, lent: &Lent, b: Bounds, g: Ranges) -> Verdict
+    ensures { least result ≡ least_of (pools_of lent.now) (least verdict) (ranges_causes b g) }
 {
-    let feed = g.feed;
-    let service = g.service;
-    let first = g.first;
-    let last = g.last;
-    let weekdays = g.weekdays;
-    let n = first.n;
-    let best1 = all_named(bytes, words, times, reals, dists, best, feed, n, b.id);
-    let best2 = all_named(bytes, words, times, reals, dists, best1, service, n, b.id);
-    let mut test = Test::Column(Pool::Words, first, n);
-    let best3 = tested(bytes, words, times, reals, dists, best2, 1, test);
-    test = Test::Column(Pool::Words, last, n);
-    let best4 = tested(bytes, words, times, reals, dists, best3, 1, test);
-    test = Test::Column(Pool::Bytes, weekdays, n);
-    let best5 = tested(bytes, words, times, reals, dists, best4, 1, test);
-    test = Test::Over(n, b.others);
-    let best6 = tested(bytes, words, times, reals, dists, best5, 2, test);
-    test = Test::Unsorted(Key::Ids(feed, service), n);
-    let best7 = tested(bytes, words, times, reals, dists, best6, 4, test);
-    test = Test::NoDate(first);
-    let best8 = tested(bytes, words, times, reals, dists, best7, 10, test);
-    test = Test::NoDate(last);
-    tested(bytes, words, times, reals, dists, best8, 10, test)
+    let n = g.first.n;
+    verdict
+        .test_all_ids(lent, g.feed, n, b.id)
+        .test_all_ids(lent, g.service, n, b.id)
+        .test(
+            lent,
+            Refusal::Columns,
+            Test::Column(Pool::Words, g.first, n),
+        )
+        .test(lent, Refusal::Columns, Test::Column(Pool::Words, g.last, n))
+        .test(
+            lent,
+            Refusal::Columns,
+            Test::Column(Pool::Bytes, g.weekdays, n),
+        )
+        .test(lent, Refusal::Count, Test::Over(n, b.others))
+        .test(
+            lent,
+            Refusal::Order,
+            Test::Unsorted(Key::Ids(g.feed, g.service), n),
+        )
+        .test(lent, Refusal::Date, Test::NoDate(g.first))
+        .test(lent, Refusal::Date, Test::NoDate(g.last))
 }
 
 // The exceptions of services.
-pub fn exceptions(
-    bytes: &[u8],
-    words: &[u32],
-    times: &[i64],
-    reals: &[f64],
-    dists: &[f32],
-    best: u32,
-    b: Bounds,
-    e: Exceptions,
-) -> u32
-    ensures { result ≡ least_of (pools bytes.now words.now times.now reals.now dists.now) best (exceptions_causes b e) }
+pub fn exceptions(verdict: Verdict, lent: &Lent, b: Bounds, e: Exceptions) -> Verdict
+    ensures { least result ≡ least_of (pools_of lent.now) (least verdict) (exceptions_causes b e) }
 {
-    let feed = e.feed;
-    let service = e.service;
-    let date = e.date;
-    let removed = e.removed;
-    let n = date.n;
-    let best1 = all_named(bytes, words, times, reals, dists, best, feed, n, b.id);
-    let best2 = all_named(bytes, words, times, reals, dists, best1, service, n, b.id);
-    let mut test = Test::Column(Pool::Words, date, n);
-    let best3 = tested(bytes, words, times, reals, dists, best2, 1, test);
-    test = Test::Column(Pool::Bytes, removed, n);
-    let best4 = tested(bytes, words, times, reals, dists, best3, 1, test);
-    test = Test::Over(n, b.others);
-    let best5 = tested(bytes, words, times, reals, dists, best4, 2, test);
-    test = Test::Unsorted(Key::Dated(feed, service, date, removed), n);
-    let best6 = tested(bytes, words, times, reals, dists, best5, 4, test);
-    test = Test::NoDate(date);
-    tested(bytes, words, times, reals, dists, best6, 10, test)
+    let n = e.date.n;
+    verdict
+        .test_all_ids(lent, e.feed, n, b.id)
+        .test_all_ids(lent, e.service, n, b.id)
+        .test(lent, Refusal::Columns, Test::Column(Pool::Words, e.date, n))
+        .test(
+            lent,
+            Refusal::Columns,
+            Test::Column(Pool::Bytes, e.removed, n),
+        )
+        .test(lent, Refusal::Count, Test::Over(n, b.others))
+        .test(
+            lent,
+            Refusal::Order,
+            Test::Unsorted(Key::Dated(e.feed, e.service, e.date, e.removed), n),
+        )
+        .test(lent, Refusal::Date, Test::NoDate(e.date))
 }

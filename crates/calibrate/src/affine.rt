@@ -7,7 +7,8 @@ ghost use Rattle.calibrate.specs.Answers.{calibration_of};
 use geometry_checks::check_calibration;
 use lent_samples::lent_affine;
 use line_answers::{Calibration, metres_answer};
-use tables::{Bounds, Samples};
+use refusals::number_or_zero;
+use tables::{Bounds, Lent, Samples};
 
 // The metres that distances stand for, or none, or the first refusal that applies.
 pub fn shape_dist_affine(
@@ -20,7 +21,14 @@ pub fn shape_dist_affine(
 ) -> Calibration
     ensures { calibration_answer result ≡ calibration_of (pools bytes.now words.now times.now reals.now dists.now) s }
 {
-    let refusal = check_calibration(bytes, words, times, reals, dists, Bounds::chart(), s);
+    let lent = Lent {
+        bytes,
+        words,
+        times,
+        reals,
+        dists,
+    };
+    let refusal = number_or_zero(&check_calibration(&lent, Bounds::chart(), s));
     if refusal != 0 {
         return Calibration::Refused(refusal);
     }

@@ -7,7 +7,8 @@ ghost use Rattle.calibrate.specs.Answers.{snapped_of};
 use geometry_checks::check_calibration;
 use lent_samples::scale_answer;
 use line_answers::Snapped;
-use tables::{Bounds, Samples, reals_of};
+use refusals::number_or_zero;
+use tables::{Bounds, Lent, Samples, cut};
 
 // The metres of the unit that the ratio is near, or the ratio itself. The ratio is the first of the numbers
 // that are lent.
@@ -21,9 +22,16 @@ pub fn snap_unit_scale(
 ) -> Snapped
     ensures { snapped_answer result ≡ snapped_of (pools bytes.now words.now times.now reals.now dists.now) s }
 {
-    let refusal = check_calibration(bytes, words, times, reals, dists, Bounds::chart(), s);
+    let lent = Lent {
+        bytes,
+        words,
+        times,
+        reals,
+        dists,
+    };
+    let refusal = number_or_zero(&check_calibration(&lent, Bounds::chart(), s));
     if refusal != 0 {
         return Snapped::Refused(refusal);
     }
-    scale_answer(reals_of(reals, s.numbers))
+    scale_answer(cut(reals, s.numbers))
 }

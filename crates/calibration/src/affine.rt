@@ -6,7 +6,7 @@ ghost use Rattle.calibration.specs.Affine.{shape_dist_affine};
 use lengths::{Point, vertices};
 use near_vertex::{forward_last_index, forward_shape_index};
 use running_lengths::length_to;
-use unit_scales::{Calibrated, between};
+use unit_scales::{Affine, between};
 
 // A stop's position, and its distance along the line in the feed's own unit.
 #[derive(Clone, Copy)]
@@ -17,11 +17,11 @@ pub struct Sample {
 
 // From the first and the last sample of a trip: the first lies at the first vertex near it, the last at
 // the last near it from there on.
-pub fn shape_dist_affine(lat: &[f64], lon: &[f64], first: Sample, last: Sample) -> Calibrated
+pub fn shape_dist_affine(lat: &[f64], lon: &[f64], first: Sample, last: Sample) -> Option<Affine>
     ensures { result ≡ shape_dist_affine (line_of lat.now lon.now) first last }
 {
     if vertices(lat, lon) < 2 {
-        return Calibrated::Nothing;
+        return None;
     }
     let from = first.at;
     let to = last.at;

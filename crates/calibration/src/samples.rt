@@ -5,17 +5,13 @@ ghost use Rattle.calibration.specs.Samples.{no_sample, samples_affine, samples_o
 
 use crate::affine::{Sample, shape_dist_affine};
 use lengths::{vertex, vertices};
-use unit_scales::Calibrated;
+use unit_scales::Affine;
 
 // How many samples there are: as many as all three columns have rows.
 fn count(lat: &[f64], lon: &[f64], dist: &[f32]) -> usize
     ensures { result ≡ length (samples_of (line_of lat.now lon.now) dist.now) }
 {
-    let n = vertices(lat, lon);
-    if dist.len() < n {
-        return dist.len();
-    }
-    n
+    vertices(lat, lon).min(dist.len())
 }
 
 // Sample k.
@@ -30,12 +26,18 @@ fn sample(lat: &[f64], lon: &[f64], dist: &[f32], k: usize) -> Sample
 }
 
 // From the first sample and the last, of two or more: y and x are their positions, lat and lon the line.
-pub fn samples_affine(lat: &[f64], lon: &[f64], y: &[f64], x: &[f64], dist: &[f32]) -> Calibrated
+pub fn samples_affine(
+    lat: &[f64],
+    lon: &[f64],
+    y: &[f64],
+    x: &[f64],
+    dist: &[f32],
+) -> Option<Affine>
     ensures { result ≡ samples_affine (line_of lat.now lon.now) (samples_of (line_of y.now x.now) dist.now) }
 {
     let n = count(y, x, dist);
     if n < 2 {
-        return Calibrated::Nothing;
+        return None;
     }
     let first = sample(y, x, dist, 0);
     let end = n - 1;

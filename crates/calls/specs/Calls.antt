@@ -1,9 +1,7 @@
 -- The calls that the updates come to: those with a time whose stop is found.
-use Rattle.std.specs.Prelude.{ℕ, ◌<◌, ◌≤◌, ◌≡◌, Bool, true, cond, List, map, ℤ, length}
+use Rattle.std.specs.Prelude.{ℕ, ◌<◌, ◌≤◌, ◌≡◌, Bool, true, cond, List, map, ℤ, length, Option, None}
 use Rattle.ids.specs.Pool.{cell_of, id_of}
 use Rattle.ids.specs.First.{is_at, or_at}
-use Rattle.ids.specs.declared.lookup.Found.{Found}
-use Rattle.ids.specs.declared.lookup.Found.TheVariants.{Nothing}
 use Rattle.key_parts.specs.Keys.{base_of}
 use Rattle.tables.specs.declared.lent.Tables.{Tables}
 use Rattle.stop_keys.specs.Names.{Known}
@@ -21,14 +19,14 @@ module _ (bytes words : List ℕ) (v : Reported) where
     pub names : (k : ℕ) → k < v.updates.sequence.n → is_set bytes v.updates.named k ≡ true → length (id_of bytes words v.updates.stop k) ≤ 96
 
   -- the stop that row k means
-  unfoldable pub update_stop : ℕ → Found
+  unfoldable pub update_stop : ℕ → Option ℕ
   update_stop k =
       stop_of bytes words v.lookup (id_of bytes words v.sailing.feed 0) (base_of (id_of bytes words v.sailing.key 0))
       (is_set bytes v.updates.named k) (id_of bytes words v.updates.stop k) (cell_of words v.updates.sequence k)
 
   -- the same, where row k has a time
-  unfoldable pub call_stop : ℕ → Found
-  call_stop k = cond (is_timed bytes v.updates k) (update_stop k) Nothing
+  unfoldable pub call_stop : ℕ → Option ℕ
+  call_stop k = cond (is_timed bytes v.updates k) (update_stop k) None
 
   -- row k is a call
   abbrev pub is_call : ℕ → Bool

@@ -3,11 +3,11 @@ ghost use Rattle.std.specs.Prelude.{◌<◌, ◌≤◌, ◌≡◌, ◌++◌, len
 ghost use Rattle.calls.specs.Calls.{Ready, call_stop, call_rows, call_stops};
 
 use crate::stop::{Reported, update_stop};
-use ids::Found;
 use update_rows::is_timed;
 
 // The stop of row k, if it is a call.
-fn call_stop(bytes: &[u8], words: &[u32], v: Reported, k: usize) -> Found
+#[tactic(auto, unfolding(crate::specs::Calls::call_stop))]
+fn call_stop(bytes: &[u8], words: &[u32], v: Reported, k: usize) -> Option<usize>
     requires ready { Ready bytes.now words.now v }
     requires k_lt_n { k < v.updates.sequence.n }
     ensures { result ≡ call_stop bytes.now words.now v k }
@@ -16,7 +16,7 @@ fn call_stop(bytes: &[u8], words: &[u32], v: Reported, k: usize) -> Found
     if is_timed(bytes, u, k) {
         return update_stop(bytes, words, v, k);
     }
-    Found::Nothing
+    None
 }
 
 // Writes the rows that are calls, in order, and their stops; how many there are.
@@ -35,18 +35,14 @@ pub fn collect(
     ensures stops_after { stops.new ≡ call_stops bytes.now words.now v ++ drop (length (call_stops bytes.now words.now v)) stops.old }
 {
     let sequence = v.updates.sequence;
-    let all = sequence.n as usize;
     let mut n = 0;
-    let mut k = 0;
-    while k < all {
-        let Found::At(stop) = call_stop(bytes, words, v, k) else {
-            k += 1;
+    for k in 0..sequence.n as usize {
+        let Some(stop) = call_stop(bytes, words, v, k) else {
             continue;
         };
         rows[n] = k as u32;
         stops[n] = stop as u32;
         n += 1;
-        k += 1;
     }
     n
 }

@@ -2,7 +2,6 @@
 ghost use Rattle.std.specs.Prelude.{◌<◌, ◌≡◌};
 ghost use Rattle.calls.specs.Calls.{Ready, update_stop};
 
-use ids::Found;
 use stop_ids::stop_of;
 use stop_rows::Lookup;
 use tables::{Sailing, Updates};
@@ -17,7 +16,7 @@ pub struct Reported {
 }
 
 // By its name, if it has one, or else by its sequence in the trip whose id is the sailing's key before its last '@'.
-pub fn update_stop(bytes: &[u8], words: &[u32], v: Reported, k: usize) -> Found
+pub fn update_stop(bytes: &[u8], words: &[u32], v: Reported, k: usize) -> Option<usize>
     requires ready { Ready bytes.now words.now v }
     requires k_lt_n { k < v.updates.sequence.n }
     ensures { result ≡ update_stop bytes.now words.now v k }

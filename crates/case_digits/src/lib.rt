@@ -4,5 +4,5 @@
 mod digits; // digits.rt: what digits of a base spell
 mod escapes; // escapes.rt: a byte as % and two digits
 
-pub use digits::{Natural, digit, spelled};
+pub use digits::{digit, spelled};
 pub use escapes::escape;

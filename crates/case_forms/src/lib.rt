@@ -3,105 +3,53 @@
 #![tactic(auto)]
 
 use case_lookups::read_lookup;
-use case_tables::{count, layout, put};
+use case_tables::{Pools, layout, put};
 use case_tokens::fields;
-use case_words::{Form, Why, held, is_count, most, token};
-
-// A form of the sailing.
-fn of_sailing(
-    s: &[u8],
-    bytes: &mut [u8],
-    words: &mut [u32],
-    times: &mut [i64],
-    form: Form,
-    row: u32,
-) -> Why {
-    match form {
-        Form::Feed => token::id(s, 1, bytes, words, layout::FEED, 1, 0),
-        Form::Trip => token::id(s, 1, bytes, words, layout::KEY, 1, 0),
-        Form::Route => case_sailing::route(s, bytes, words),
-        Form::Now => token::moment(s, 1, times, layout::NOW, 0),
-        Form::Offset => token::moment(s, 1, times, layout::OFFSET, 0),
-        Form::Cancelled => case_sailing::cancelled(bytes),
-        Form::Update => case_sailing::update(s, bytes, words, times, row),
-        _ => Why::Name,
-    }
-}
-
-// A form of stops, static trips and shapes, or of what rows are looked up by.
-fn of_statics(
-    s: &[u8],
-    bytes: &mut [u8],
-    words: &mut [u32],
-    reals: &mut [f64],
-    dists: &mut [f32],
-    form: Form,
-    row: u32,
-) -> Why {
-    match form {
-        Form::Stop => case_statics::stop(s, bytes, words, reals, row),
-        Form::Static => case_statics::static_trip(s, bytes, words, row),
-        Form::Call => case_statics::call(s, bytes, words, dists, row),
-        Form::Shape => case_statics::shape(s, bytes, words, row),
-        Form::Point => case_statics::point(s, words, reals, row),
-        _ => read_lookup(s, bytes, words, form, row),
-    }
-}
-
-// Whether a form is one of the sailing's.
-fn is_sailing(form: Form) -> bool {
-    match form {
-        Form::Feed | Form::Trip | Form::Route | Form::Now => true,
-        Form::Offset | Form::Cancelled | Form::Update => true,
-        _ => false,
-    }
-}
-
-// Whether another row of a form may be read, of this many fields.
-fn allowed(words: &[u32], form: Form, fields: usize) -> Why {
-    let rows = most(form);
-    if rows <= count(words, held(form)) {
-        if rows == 1 {
-            return Why::Again;
-        }
-        return Why::Rows(rows);
-    }
-    if is_count(form, fields) {
-        return Why::Nothing;
-    }
-    Why::Tokens
-}
+use case_words::{Form, Why, token};
 
 // A row of a form.
-fn row_of(
-    s: &[u8],
-    bytes: &mut [u8],
-    words: &mut [u32],
-    times: &mut [i64],
-    reals: &mut [f64],
-    dists: &mut [f32],
-    form: Form,
-) -> Why {
-    let row = count(words, held(form));
-    put::more(words, held(form), 0);
-    if is_sailing(form) {
-        return of_sailing(s, bytes, words, times, form, row);
+fn read_row(s: &[u8], pools: &mut Pools, form: Form, row: u32) -> Result<(), Why> {
+    match form {
+        Form::Feed => token::id(s, 1, pools, layout::FEED, 0),
+        Form::Trip => token::id(s, 1, pools, layout::KEY, 0),
+        Form::Now => {
+            put(pools.times, layout::NOW, 0, token::moment(s, 1)?);
+            Ok(())
+        }
+        Form::Offset => {
+            put(pools.times, layout::OFFSET, 0, token::moment(s, 1)?);
+            Ok(())
+        }
+        Form::Route => case_sailing::route(s, pools),
+        Form::Cancelled => {
+            case_sailing::cancelled(pools);
+            Ok(())
+        }
+        Form::Update => case_sailing::update(s, pools, row),
+        Form::Stop => case_statics::stop(s, pools, row),
+        Form::Static => case_statics::static_trip(s, pools, row),
+        Form::Call => case_statics::call(s, pools, row),
+        Form::Shape => case_statics::shape(s, pools, row),
+        Form::Point => case_statics::point(s, pools, row),
+        _ => read_lookup(s, pools, form, row),
     }
-    of_statics(s, bytes, words, reals, dists, form, row)
 }
 
 // Reads a form other than a query, of what stands between the line's parentheses.
-pub fn read_form(
-    s: &[u8],
-    bytes: &mut [u8],
-    words: &mut [u32],
-    times: &mut [i64],
-    reals: &mut [f64],
-    dists: &mut [f32],
-    form: Form,
-) -> Why {
-    match allowed(words, form, fields(s)) {
-        Why::Nothing => row_of(s, bytes, words, times, reals, dists, form),
-        why => why,
+pub fn read_form(s: &[u8], pools: &mut Pools, form: Form) -> Result<(), Why> {
+    let most = form.most();
+    let held = form.held(&mut pools.held);
+    let row = *held;
+    if most <= row {
+        return Err(if most == 1 {
+            Why::Again
+        } else {
+            Why::Rows(most)
+        });
     }
+    if !form.is_count(fields(s)) {
+        return Err(Why::Tokens);
+    }
+    *held = row + 1;
+    read_row(s, pools, form, row)
 }

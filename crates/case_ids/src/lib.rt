@@ -3,4 +3,4 @@
 
 mod id; // id.rt: ids, with % and two digits for a byte
 
-pub use id::{Code, coded, id_length, is_plain, put_id};
+pub use id::{coded, id_length, is_plain, put_id};

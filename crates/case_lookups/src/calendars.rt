@@ -1,79 +1,41 @@
 // The feeds that have a calendar, their ranges and their exceptions.
-use case_numbers::Whole;
-use case_tables::{layout, limits, put};
+use case_tables::{Pools, layout, put};
 use case_tokens::field;
 use case_words::{Why, token};
 
 // (calendar ID)
-pub(crate) fn calendar(s: &[u8], bytes: &mut [u8], words: &mut [u32], row: u32) -> Why {
-    token::id(s, 1, bytes, words, layout::CALENDAR, limits::OTHERS, row)
-}
-
-// The first and the last day of a range.
-fn range_days(s: &[u8], words: &mut [u32], row: u32) -> Why {
-    match token::number(s, 3, words, layout::RANGE_FIRST, row) {
-        Why::Nothing => token::number(s, 4, words, layout::RANGE_LAST, row),
-        why => why,
-    }
-}
-
-// Its weekdays, then its days.
-fn range_rest(s: &[u8], bytes: &mut [u8], words: &mut [u32], row: u32) -> Why {
-    let Whole::Is(bits) = case_numbers::days(field(s, 5)) else {
-        return Why::Token(5);
-    };
-    put::byte(bytes, layout::RANGE_DAYS, row, (bits % 128) as u8);
-    range_days(s, words, row)
+pub(crate) fn calendar(s: &[u8], pools: &mut Pools, row: u32) -> Result<(), Why> {
+    token::id(s, 1, pools, layout::CALENDAR, row)
 }
 
 // (range ID ID N N DAYS)
-pub(crate) fn range(s: &[u8], bytes: &mut [u8], words: &mut [u32], row: u32) -> Why {
-    match token::ids(
-        s,
-        bytes,
-        words,
-        layout::RANGE_FEED,
-        layout::RANGE_SERVICE,
-        limits::OTHERS,
-        row,
-    ) {
-        Why::Nothing => range_rest(s, bytes, words, row),
-        why => why,
-    }
-}
-
-// Whether an exception is `added` or `removed`.
-fn kind(s: &[u8], bytes: &mut [u8], row: u32) -> Why {
-    if texts::same(field(s, 4), b"added") {
-        return Why::Nothing;
-    }
-    if !texts::same(field(s, 4), b"removed") {
-        return Why::Token(4);
-    }
-    put::byte(bytes, layout::EXCEPTION_REMOVED, row, 1);
-    Why::Nothing
-}
-
-// Its date, then its kind.
-fn exception_rest(s: &[u8], bytes: &mut [u8], words: &mut [u32], row: u32) -> Why {
-    match token::number(s, 3, words, layout::EXCEPTION_DATE, row) {
-        Why::Nothing => kind(s, bytes, row),
-        why => why,
-    }
+pub(crate) fn range(s: &[u8], pools: &mut Pools, row: u32) -> Result<(), Why> {
+    token::id(s, 1, pools, layout::RANGE_FEED, row)?;
+    token::id(s, 2, pools, layout::RANGE_SERVICE, row)?;
+    // the days are read first: where they are at fault too, they are what is told
+    let days = case_numbers::days(field(s, 5)).ok_or(Why::Token(5))?;
+    put(pools.bytes, layout::RANGE_DAYS, row, days);
+    put(pools.words, layout::RANGE_FIRST, row, token::number(s, 3)?);
+    put(pools.words, layout::RANGE_LAST, row, token::number(s, 4)?);
+    Ok(())
 }
 
 // (exception ID ID N KIND)
-pub(crate) fn exception(s: &[u8], bytes: &mut [u8], words: &mut [u32], row: u32) -> Why {
-    match token::ids(
-        s,
-        bytes,
-        words,
-        layout::EXCEPTION_FEED,
-        layout::EXCEPTION_SERVICE,
-        limits::OTHERS,
+pub(crate) fn exception(s: &[u8], pools: &mut Pools, row: u32) -> Result<(), Why> {
+    token::id(s, 1, pools, layout::EXCEPTION_FEED, row)?;
+    token::id(s, 2, pools, layout::EXCEPTION_SERVICE, row)?;
+    put(
+        pools.words,
+        layout::EXCEPTION_DATE,
         row,
-    ) {
-        Why::Nothing => exception_rest(s, bytes, words, row),
-        why => why,
+        token::number(s, 3)?,
+    );
+    match field(s, 4) {
+        b"added" => Ok(()),
+        b"removed" => {
+            put(pools.bytes, layout::EXCEPTION_REMOVED, row, 1);
+            Ok(())
+        }
+        _ => Err(Why::Token(4)),
     }
 }

@@ -3,4 +3,4 @@
 
 mod sign; // sign.rt: moments and delays
 
-pub use sign::{Signed, delay, moment};
+pub use sign::{delay, moment};

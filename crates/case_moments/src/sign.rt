@@ -1,56 +1,40 @@
 // Moments and delays.
-ghost use Rattle.std.specs.Prelude.{◌≡◌, ◌<◌, ◌^◌};
-ghost use Rattle.case_moments.specs.Moments.{with_sign, is_negative, moment_of, delay_of};
+ghost use Rattle.std.specs.Prelude.{◌≡◌, ◌≤◌, ◌<◌, ◌^◌};
+ghost use Rattle.case_moments.specs.Moments.{with_sign, signed_of, moment_of, delay_of};
 
-use case_digits::{Natural, spelled};
-
-#[derive(Clone, Copy)]
-pub enum Signed {
-    Is(i64),
-    Nothing,
-}
+use case_digits::spelled;
 
 // 1 to 18 decimal digits, after a minus or not.
-pub fn moment(s: &[u8]) -> Signed
+pub fn moment(s: &[u8]) -> Option<i64>
     ensures { result ≡ moment_of s.now }
 {
-    if is_negative(s) {
-        return with_sign(spelled(&s[1..], 10, 18), true, 999999999999999999);
-    }
-    with_sign(spelled(s, 10, 18), false, 999999999999999999)
+    signed(s, 18, 999999999999999999, 999999999999999999)
 }
 
 // 1 to 10 decimal digits, after a minus or not, within i32.
-pub fn delay(s: &[u8]) -> Signed
+pub fn delay(s: &[u8]) -> Option<i64>
     ensures { result ≡ delay_of s.now }
 {
-    if is_negative(s) {
-        return with_sign(spelled(&s[1..], 10, 10), true, 2147483648);
-    }
-    with_sign(spelled(s, 10, 10), false, 2147483647)
+    signed(s, 10, 2147483648, 2147483647)
 }
 
-fn is_negative(s: &[u8]) -> bool
-    ensures { result ≡ is_negative s.now }
+// Up to so many digits, after a minus or not, from -least to `most`.
+fn signed(s: &[u8], digits: usize, least: u64, most: u64) -> Option<i64>
+    requires digits_bound { 10 ^ digits ≤ 2 ^ 64 }
+    requires least_bound { least < 2 ^ 63 }
+    requires most_bound { most < 2 ^ 63 }
+    ensures { result ≡ signed_of digits least most s.now }
 {
-    if s.len() == 0 {
-        return false;
+    match s {
+        [b'-', size @ ..] => with_sign(spelled(size, 10, digits), true, least),
+        _ => with_sign(spelled(s, 10, digits), false, most),
     }
-    s[0] == b'-'
 }
 
-fn with_sign(v: Natural, minus: bool, most: u64) -> Signed
+fn with_sign(size: Option<u64>, minus: bool, most: u64) -> Option<i64>
     requires { most < 2 ^ 63 }
-    ensures { result ≡ with_sign v minus most }
+    ensures { result ≡ with_sign size minus most }
 {
-    let Natural::Is(n) = v else {
-        return Signed::Nothing;
-    };
-    if most < n {
-        return Signed::Nothing;
-    }
-    if minus {
-        return Signed::Is(-(n as i64));
-    }
-    Signed::Is(n as i64)
+    let size = size.filter(|n| *n <= most)? as i64;
+    Some(if minus { -size } else { size })
 }

@@ -3,4 +3,4 @@
 
 mod numerals; // numerals.rt: counts, bits and days
 
-pub use numerals::{Whole, days, double, number, single};
+pub use numerals::{days, double, number, single};

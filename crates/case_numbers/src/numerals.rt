@@ -1,68 +1,53 @@
 // Counts, bits and days.
-ghost use Rattle.std.specs.Prelude.{◌≡◌, ◌<◌};
+ghost use Rattle.std.specs.Prelude.{◌≡◌, ◌<◌, IfSome};
 ghost use Rattle.case_numbers.specs.Numerals.{below_of, number_of, double_of, single_of};
 
-use case_digits::{Natural, digit, spelled};
-
-#[derive(Clone, Copy)]
-pub enum Whole {
-    Is(u32),
-    Nothing,
-}
+use case_digits::{digit, spelled};
 
 // 1 to 10 decimal digits, below 2^32.
-pub fn number(s: &[u8]) -> Whole
+pub fn number(s: &[u8]) -> Option<u32>
     ensures { result ≡ number_of s.now }
 {
     below(spelled(s, 10, 10))
 }
 
 // The bits of an f64: 16 hexadecimal digits.
-pub fn double(s: &[u8]) -> Natural
+pub fn double(s: &[u8]) -> Option<u64>
     ensures { result ≡ double_of s.now }
 {
     if s.len() < 16 {
-        return Natural::Nothing;
+        return None;
     }
     spelled(s, 16, 16)
 }
 
 // The bits of an f32: 8 hexadecimal digits.
-pub fn single(s: &[u8]) -> Whole
+pub fn single(s: &[u8]) -> Option<u32>
     ensures { result ≡ single_of s.now }
 {
     if s.len() < 8 {
-        return Whole::Nothing;
+        return None;
     }
     below(spelled(s, 16, 8))
 }
 
-fn below(v: Natural) -> Whole
-    ensures { result ≡ below_of v }
+fn below(n: Option<u64>) -> Option<u32>
+    ensures { result ≡ below_of n }
 {
-    let Natural::Is(n) = v else {
-        return Whole::Nothing;
-    };
-    if 4294967295 < n {
-        return Whole::Nothing;
-    }
-    Whole::Is(n as u32)
+    u32::try_from(n?).ok()
 }
 
 // Seven of 0 and 1, Monday first: a bit for each, Monday lowest.
-pub fn days(s: &[u8]) -> Whole {
+pub fn days(s: &[u8]) -> Option<u8>
+    ensures { IfSome result (λ bits. bits < 128) }
+{
     if s.len() != 7 {
-        return Whole::Nothing;
+        return None;
     }
-    let mut bits: u32 = 0;
-    let mut i = 7;
-    while 0 < i {
-        i -= 1;
-        let d = digit(s[i]);
-        if 1 < d {
-            return Whole::Nothing;
-        }
-        bits = bits % 128 * 2 + d as u32;
+    let mut bits = 0;
+    for b in s.iter().rev() {
+        let day = digit(*b, 2)?;
+        bits = bits % 64 * 2 + day;
     }
-    Whole::Is(bits)
+    Some(bits as u8)
 }

@@ -1,7 +1,6 @@
-// How many rows of each table a case has. The counts stand in the words while a case is read.
-use crate::layout;
+// How many rows each table of a case has, and what else is counted while the case is read.
 
-#[derive(Clone, Copy)]
+#[derive(Clone, Copy, Debug, Default, PartialEq, Eq)]
 pub struct Case {
     pub stops: u32,
     pub stopkeys: u32,
@@ -16,27 +15,14 @@ pub struct Case {
     pub ranges: u32,
     pub exceptions: u32,
     pub updates: u32,
-}
-
-// A count.
-pub fn count(words: &[u32], held: u32) -> u32 {
-    ids::word(words, held as usize)
-}
-
-pub fn case_of(words: &[u32]) -> Case {
-    Case {
-        stops: count(words, layout::HELD_STOPS),
-        stopkeys: count(words, layout::HELD_STOP_KEYS),
-        trips: count(words, layout::HELD_TRIPS),
-        tripkeys: count(words, layout::HELD_TRIP_KEYS),
-        calls: count(words, layout::HELD_CALLS),
-        shapes: count(words, layout::HELD_SHAPES),
-        points: count(words, layout::HELD_POINTS),
-        aliases: count(words, layout::HELD_ALIASES),
-        lines: count(words, layout::HELD_LINES),
-        calendars: count(words, layout::HELD_CALENDARS),
-        ranges: count(words, layout::HELD_RANGES),
-        exceptions: count(words, layout::HELD_EXCEPTIONS),
-        updates: count(words, layout::HELD_UPDATES),
-    }
+    // of each form that stands once
+    pub feeds: u32,
+    pub keys: u32,
+    pub nows: u32,
+    pub offsets: u32,
+    pub cancels: u32,
+    pub routes: u32,
+    // bytes of ids and of queries
+    pub id_bytes: u32,
+    pub query_bytes: usize,
 }

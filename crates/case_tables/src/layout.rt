@@ -1,38 +1,52 @@
 // Where each column stands in its pool. A column of ids has two parts, each as long as its table: where ids begin, then how long they are.
-ghost use Rattle.std.specs.Prelude.{◌+◌, ◌^◌, ◌<◌};
-
 use crate::held::Case;
 use crate::limits::{
     CALLS, ID_BYTES, OTHERS, POINTS, SHAPES, STOP_KEYS, STOPS, TRIP_KEYS, TRIPS, UPDATES,
 };
-use ids::{IdColumn, Span};
+use crate::place::IdPlace;
+use ids::Span;
 use tables::{
     Aliases, Calendars, Exceptions, IdRows, Lines, Points, Ranges, Sailing, Shapes, StopTimes,
     Stops, Tables, Trips, Updates,
 };
 
 // The words.
-pub const STOP_OWN: u32 = 0;
+pub const STOP_OWN: IdPlace = IdPlace { at: 0, rows: STOPS };
 
-pub const STOP_RAW: u32 = STOP_OWN + 2 * STOPS;
+pub const STOP_RAW: IdPlace = IdPlace {
+    at: STOP_OWN.at + 2 * STOPS,
+    rows: STOPS,
+};
 
-pub const STOP_KEY: u32 = STOP_RAW + 2 * STOPS;
+pub const STOP_KEY: IdPlace = IdPlace {
+    at: STOP_RAW.at + 2 * STOPS,
+    rows: STOP_KEYS,
+};
 
-pub const STOP_KEY_ROW: u32 = STOP_KEY + 2 * STOP_KEYS;
+pub const STOP_KEY_ROW: u32 = STOP_KEY.at + 2 * STOP_KEYS;
 
-pub const TRIP_FEED: u32 = STOP_KEY_ROW + STOP_KEYS;
+pub const TRIP_FEED: IdPlace = IdPlace {
+    at: STOP_KEY_ROW + STOP_KEYS,
+    rows: TRIPS,
+};
 
-pub const TRIP_SERVICE: u32 = TRIP_FEED + 2 * TRIPS;
+pub const TRIP_SERVICE: IdPlace = IdPlace {
+    at: TRIP_FEED.at + 2 * TRIPS,
+    rows: TRIPS,
+};
 
-pub const TRIP_SHAPE: u32 = TRIP_SERVICE + 2 * TRIPS;
+pub const TRIP_SHAPE: u32 = TRIP_SERVICE.at + 2 * TRIPS;
 
 pub const TRIP_FIRST: u32 = TRIP_SHAPE + TRIPS;
 
 pub const TRIP_COUNT: u32 = TRIP_FIRST + TRIPS;
 
-pub const TRIP_KEY: u32 = TRIP_COUNT + TRIPS;
+pub const TRIP_KEY: IdPlace = IdPlace {
+    at: TRIP_COUNT + TRIPS,
+    rows: TRIP_KEYS,
+};
 
-pub const TRIP_KEY_ROW: u32 = TRIP_KEY + 2 * TRIP_KEYS;
+pub const TRIP_KEY_ROW: u32 = TRIP_KEY.at + 2 * TRIP_KEYS;
 
 pub const CALL_SEQUENCE: u32 = TRIP_KEY_ROW + TRIP_KEYS;
 
@@ -42,90 +56,86 @@ pub const CALL_ARRIVAL: u32 = CALL_STOP + CALLS;
 
 pub const CALL_DEPARTURE: u32 = CALL_ARRIVAL + CALLS;
 
-pub const SHAPE: u32 = CALL_DEPARTURE + CALLS;
+pub const SHAPE: IdPlace = IdPlace {
+    at: CALL_DEPARTURE + CALLS,
+    rows: SHAPES,
+};
 
-pub const SHAPE_FIRST: u32 = SHAPE + 2 * SHAPES;
+pub const SHAPE_FIRST: u32 = SHAPE.at + 2 * SHAPES;
 
 pub const SHAPE_COUNT: u32 = SHAPE_FIRST + SHAPES;
 
-pub const ALIAS: u32 = SHAPE_COUNT + SHAPES;
+pub const ALIAS: IdPlace = IdPlace {
+    at: SHAPE_COUNT + SHAPES,
+    rows: OTHERS,
+};
 
-pub const ALIAS_TRIP: u32 = ALIAS + 2 * OTHERS;
+pub const ALIAS_TRIP: IdPlace = IdPlace {
+    at: ALIAS.at + 2 * OTHERS,
+    rows: OTHERS,
+};
 
-pub const LINE_TOKEN: u32 = ALIAS_TRIP + 2 * OTHERS;
+pub const LINE_TOKEN: IdPlace = IdPlace {
+    at: ALIAS_TRIP.at + 2 * OTHERS,
+    rows: OTHERS,
+};
 
-pub const LINE_TRIP: u32 = LINE_TOKEN + 2 * OTHERS;
+pub const LINE_TRIP: u32 = LINE_TOKEN.at + 2 * OTHERS;
 
-pub const CALENDAR: u32 = LINE_TRIP + OTHERS;
+pub const CALENDAR: IdPlace = IdPlace {
+    at: LINE_TRIP + OTHERS,
+    rows: OTHERS,
+};
 
-pub const RANGE_FEED: u32 = CALENDAR + 2 * OTHERS;
+pub const RANGE_FEED: IdPlace = IdPlace {
+    at: CALENDAR.at + 2 * OTHERS,
+    rows: OTHERS,
+};
 
-pub const RANGE_SERVICE: u32 = RANGE_FEED + 2 * OTHERS;
+pub const RANGE_SERVICE: IdPlace = IdPlace {
+    at: RANGE_FEED.at + 2 * OTHERS,
+    rows: OTHERS,
+};
 
-pub const RANGE_FIRST: u32 = RANGE_SERVICE + 2 * OTHERS;
+pub const RANGE_FIRST: u32 = RANGE_SERVICE.at + 2 * OTHERS;
 
 pub const RANGE_LAST: u32 = RANGE_FIRST + OTHERS;
 
-pub const EXCEPTION_FEED: u32 = RANGE_LAST + OTHERS;
+pub const EXCEPTION_FEED: IdPlace = IdPlace {
+    at: RANGE_LAST + OTHERS,
+    rows: OTHERS,
+};
 
-pub const EXCEPTION_SERVICE: u32 = EXCEPTION_FEED + 2 * OTHERS;
+pub const EXCEPTION_SERVICE: IdPlace = IdPlace {
+    at: EXCEPTION_FEED.at + 2 * OTHERS,
+    rows: OTHERS,
+};
 
-pub const EXCEPTION_DATE: u32 = EXCEPTION_SERVICE + 2 * OTHERS;
+pub const EXCEPTION_DATE: u32 = EXCEPTION_SERVICE.at + 2 * OTHERS;
 
 pub const UPDATE_SEQUENCE: u32 = EXCEPTION_DATE + OTHERS;
 
-pub const UPDATE_STOP: u32 = UPDATE_SEQUENCE + UPDATES;
+pub const UPDATE_STOP: IdPlace = IdPlace {
+    at: UPDATE_SEQUENCE + UPDATES,
+    rows: UPDATES,
+};
 
-pub const FEED: u32 = UPDATE_STOP + 2 * UPDATES;
+pub const FEED: IdPlace = IdPlace {
+    at: UPDATE_STOP.at + 2 * UPDATES,
+    rows: 1,
+};
 
-pub const KEY: u32 = FEED + 2;
+pub const KEY: IdPlace = IdPlace {
+    at: FEED.at + 2,
+    rows: 1,
+};
 
-pub const ROUTE: u32 = KEY + 2;
+pub const ROUTE: IdPlace = IdPlace {
+    at: KEY.at + 2,
+    rows: 1,
+};
 
-// How many rows there are so far, of each table and of each form that stands once; and how many bytes of ids and of queries.
-pub const HELD_STOPS: u32 = ROUTE + 2;
-
-pub const HELD_STOP_KEYS: u32 = HELD_STOPS + 1;
-
-pub const HELD_TRIPS: u32 = HELD_STOP_KEYS + 1;
-
-pub const HELD_TRIP_KEYS: u32 = HELD_TRIPS + 1;
-
-pub const HELD_CALLS: u32 = HELD_TRIP_KEYS + 1;
-
-pub const HELD_SHAPES: u32 = HELD_CALLS + 1;
-
-pub const HELD_POINTS: u32 = HELD_SHAPES + 1;
-
-pub const HELD_ALIASES: u32 = HELD_POINTS + 1;
-
-pub const HELD_LINES: u32 = HELD_ALIASES + 1;
-
-pub const HELD_CALENDARS: u32 = HELD_LINES + 1;
-
-pub const HELD_RANGES: u32 = HELD_CALENDARS + 1;
-
-pub const HELD_EXCEPTIONS: u32 = HELD_RANGES + 1;
-
-pub const HELD_UPDATES: u32 = HELD_EXCEPTIONS + 1;
-
-pub const HELD_FEEDS: u32 = HELD_UPDATES + 1;
-
-pub const HELD_KEYS: u32 = HELD_FEEDS + 1;
-
-pub const HELD_NOWS: u32 = HELD_KEYS + 1;
-
-pub const HELD_OFFSETS: u32 = HELD_NOWS + 1;
-
-pub const HELD_CANCELS: u32 = HELD_OFFSETS + 1;
-
-pub const HELD_ROUTES: u32 = HELD_CANCELS + 1;
-
-pub const HELD_ID_BYTES: u32 = HELD_ROUTES + 1;
-
-pub const HELD_QUERY_BYTES: u32 = HELD_ID_BYTES + 1;
-
-pub const WORDS: u32 = HELD_QUERY_BYTES + 1;
+pub const WORDS: u32 = ROUTE.at + 2;
 
 // The bytes: columns of flags, then the ids.
 pub const STOP_POSITIONED: u32 = 0;
@@ -193,16 +203,6 @@ pub fn span(at: u32, n: u32) -> Span {
     Span { at, n }
 }
 
-// A column of ids that holds `rows`, of which n are there.
-pub fn id_column(at: u32, rows: u32, n: u32) -> IdColumn
-    requires { at + rows < 2 ^ 32 }
-{
-    IdColumn {
-        starts: span(at, n),
-        lens: span(at + rows, n),
-    }
-}
-
 // The tables of a case.
 pub fn tables(c: Case) -> Tables {
     Tables {
@@ -225,8 +225,8 @@ pub fn tables(c: Case) -> Tables {
 
 fn stops(n: u32) -> Stops {
     Stops {
-        own: id_column(STOP_OWN, STOPS, n),
-        raw: id_column(STOP_RAW, STOPS, n),
+        own: STOP_OWN.column(n),
+        raw: STOP_RAW.column(n),
         lat: span(STOP_LAT, n),
         lon: span(STOP_LON, n),
         positioned: span(STOP_POSITIONED, n),
@@ -235,15 +235,15 @@ fn stops(n: u32) -> Stops {
 
 fn stop_keys(n: u32) -> IdRows {
     IdRows {
-        id: id_column(STOP_KEY, STOP_KEYS, n),
+        id: STOP_KEY.column(n),
         row: span(STOP_KEY_ROW, n),
     }
 }
 
 fn trips(n: u32) -> Trips {
     Trips {
-        feed: id_column(TRIP_FEED, TRIPS, n),
-        service: id_column(TRIP_SERVICE, TRIPS, n),
+        feed: TRIP_FEED.column(n),
+        service: TRIP_SERVICE.column(n),
         shape: span(TRIP_SHAPE, n),
         shaped: span(TRIP_SHAPED, n),
         frequency: span(TRIP_FREQUENCY, n),
@@ -254,7 +254,7 @@ fn trips(n: u32) -> Trips {
 
 fn trip_keys(n: u32) -> IdRows {
     IdRows {
-        id: id_column(TRIP_KEY, TRIP_KEYS, n),
+        id: TRIP_KEY.column(n),
         row: span(TRIP_KEY_ROW, n),
     }
 }
@@ -272,7 +272,7 @@ fn calls(n: u32) -> StopTimes {
 
 fn shapes(n: u32) -> Shapes {
     Shapes {
-        id: id_column(SHAPE, SHAPES, n),
+        id: SHAPE.column(n),
         first: span(SHAPE_FIRST, n),
         count: span(SHAPE_COUNT, n),
     }
@@ -287,28 +287,28 @@ fn points(n: u32) -> Points {
 
 fn aliases(n: u32) -> Aliases {
     Aliases {
-        id: id_column(ALIAS, OTHERS, n),
-        trip: id_column(ALIAS_TRIP, OTHERS, n),
+        id: ALIAS.column(n),
+        trip: ALIAS_TRIP.column(n),
     }
 }
 
 fn lines(n: u32) -> Lines {
     Lines {
-        token: id_column(LINE_TOKEN, OTHERS, n),
+        token: LINE_TOKEN.column(n),
         trip: span(LINE_TRIP, n),
     }
 }
 
 fn calendars(n: u32) -> Calendars {
     Calendars {
-        feed: id_column(CALENDAR, OTHERS, n),
+        feed: CALENDAR.column(n),
     }
 }
 
 fn ranges(n: u32) -> Ranges {
     Ranges {
-        feed: id_column(RANGE_FEED, OTHERS, n),
-        service: id_column(RANGE_SERVICE, OTHERS, n),
+        feed: RANGE_FEED.column(n),
+        service: RANGE_SERVICE.column(n),
         first: span(RANGE_FIRST, n),
         last: span(RANGE_LAST, n),
         weekdays: span(RANGE_DAYS, n),
@@ -317,8 +317,8 @@ fn ranges(n: u32) -> Ranges {
 
 fn exceptions(n: u32) -> Exceptions {
     Exceptions {
-        feed: id_column(EXCEPTION_FEED, OTHERS, n),
-        service: id_column(EXCEPTION_SERVICE, OTHERS, n),
+        feed: EXCEPTION_FEED.column(n),
+        service: EXCEPTION_SERVICE.column(n),
         date: span(EXCEPTION_DATE, n),
         removed: span(EXCEPTION_REMOVED, n),
     }
@@ -327,7 +327,7 @@ fn exceptions(n: u32) -> Exceptions {
 fn updates(n: u32) -> Updates {
     Updates {
         sequence: span(UPDATE_SEQUENCE, n),
-        stop: id_column(UPDATE_STOP, UPDATES, n),
+        stop: UPDATE_STOP.column(n),
         named: span(UPDATE_NAMED, n),
         arrival: span(UPDATE_ARRIVAL, n),
         arrives: span(UPDATE_ARRIVES, n),
@@ -342,9 +342,9 @@ fn updates(n: u32) -> Updates {
 
 fn sailing() -> Sailing {
     Sailing {
-        feed: id_column(FEED, 1, 1),
-        key: id_column(KEY, 1, 1),
-        route: id_column(ROUTE, 1, 1),
+        feed: FEED.column(1),
+        key: KEY.column(1),
+        route: ROUTE.column(1),
         routed: span(ROUTED, 1),
         cancelled: span(CANCELLED, 1),
         now: span(NOW, 1),

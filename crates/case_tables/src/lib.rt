@@ -5,7 +5,10 @@
 mod held; // held.rt: how many rows of each table there are
 pub mod layout; // layout.rt: where each column stands in its pool, and the tables
 pub mod limits; // limits.rt: how much is held
-pub mod put; // put.rt: values into the pools
+mod place; // place.rt: columns of ids, and values at a row of a column
+mod pools; // pools.rt: the pools, and ids into them
 
-pub use held::{Case, case_of, count};
-pub use layout::{id_column, span, tables};
+pub use held::Case;
+pub use layout::{span, tables};
+pub use place::{IdPlace, put};
+pub use pools::{NotPut, Pools};

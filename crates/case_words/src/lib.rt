@@ -2,9 +2,9 @@
 // column of the pools. As programs, its functions are proved safe and ending: what is read shows in what is answered.
 #![tactic(auto)]
 
-mod name; // name.rt: the names, and how often each form may stand
+mod name; // name.rt: the forms by their names, and how often each may stand
 pub mod token; // token.rt: one token of a line into a row of a column
 mod why; // why.rt: why a line is no form
 
-pub use name::{Form, form_of, held, is_count, most};
+pub use name::Form;
 pub use why::Why;

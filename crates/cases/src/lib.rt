@@ -2,7 +2,9 @@
 // is read shows in what is answered.
 #![tactic(auto)]
 
-mod lines; // lines.rt: the lines of standard input
+mod lines; // lines.rt: the lines of an input
 mod text; // text.rt: the lines of a case
 
-pub use text::{Reading, print_fault, read, start};
+pub use case_answers::{Fault, print_fault};
+pub use lines::Lines;
+pub use text::{Reading, read};

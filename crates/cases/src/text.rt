@@ -1,226 +1,106 @@
 // The lines of a case.
-use crate::lines::{Taken, next_line};
+use crate::lines::Lines;
+use case_answers::Fault;
 use case_forms::read_form;
-use case_kept::{LINES, kept, turn};
-use case_queries::{Query, query_of};
-use case_tables::{count, layout};
+use case_kept::kept;
+use case_queries::query_of;
+use case_tables::{Case, Pools};
 use case_tokens::{field, inside};
-use case_words::{Form, Why, form_of};
+use case_words::{Form, Why};
 use std::io;
 use std::io::Read;
 
-// How far a text is read.
-#[derive(Clone, Copy)]
+// A case that is read: what keeps it from being one, and whether the text is over too.
+#[derive(Clone, Copy, Debug, PartialEq, Eq)]
 pub struct Reading {
-    // the chunk's bytes that are read and not taken
-    pub at: usize,
-    pub n: usize,
-    // the lines of the case so far, up to the first that is no form
-    pub lines: u64,
-    // whether all so far are forms; else the form that the last is not, and why
-    pub good: bool,
-    pub form: Form,
-    pub why: Why,
-    // whether the case is over, and the text
-    pub over: bool,
+    pub outcome: Result<(), Fault>,
     pub last: bool,
 }
 
-// Before the first line of a case, with so much of the text read and not taken.
-pub fn start(at: usize, n: usize) -> Reading {
-    Reading {
-        at,
-        n,
-        lines: 0,
-        good: true,
-        form: Form::Other,
-        why: Why::Nothing,
-        over: false,
-        last: false,
-    }
-}
+// More lines than any text has.
+const LINES: u64 = u64::MAX;
 
-// A query, or a line that is no form.
-fn asked(s: &[u8], queries: &mut [u8], words: &mut [u32]) -> Why {
-    match query_of(s) {
-        Query::Nothing => Why::Name,
-        _ => kept(s, queries, words),
-    }
-}
-
-// A line, of what stands between its parentheses and the form that it names.
-fn line_of(
+// Reads a form into the pools, or a query into `queries`, of what stands between the line's parentheses.
+fn read_words(
     s: &[u8],
+    form: Option<Form>,
     queries: &mut [u8],
-    bytes: &mut [u8],
-    words: &mut [u32],
-    times: &mut [i64],
-    reals: &mut [f64],
-    dists: &mut [f32],
-    form: Form,
-) -> Why {
+    pools: &mut Pools,
+) -> Result<(), Why> {
     match form {
-        Form::Other => asked(s, queries, words),
-        _ => read_form(s, bytes, words, times, reals, dists, form),
-    }
-}
-
-// At fault in this line.
-fn at_fault(r: Reading, lines: u64, form: Form, why: Why) -> Reading {
-    Reading {
-        at: r.at,
-        n: r.n,
-        lines,
-        good: false,
-        form,
-        why,
-        over: r.over,
-        last: r.last,
-    }
-}
-
-// After a line of a text that was good so far.
-fn judged(r: Reading, form: Form, why: Why) -> Reading {
-    let lines = std::num::wrapping_add_u64(r.lines, 1);
-    match why {
-        Why::Nothing => {
-            let mut next = r;
-            next.lines = lines;
-            next
+        Some(form) => read_form(s, pools, form),
+        None => {
+            query_of(s).ok_or(Why::Name)?;
+            kept(s, queries, &mut pools.held)
         }
-        _ => at_fault(r, lines, form, why),
     }
 }
 
-// After the next line, of this length, which the buffer may not hold.
-fn next_of(
-    line: &[u8],
-    n: usize,
+// Reads the line of this number, where it is no longer than a line may be.
+fn read_line(
+    text: Option<&[u8]>,
+    line: u64,
     queries: &mut [u8],
-    bytes: &mut [u8],
-    words: &mut [u32],
-    times: &mut [i64],
-    reals: &mut [f64],
-    dists: &mut [f32],
-    r: Reading,
-) -> Reading {
-    if line.len() < n {
-        return judged(r, Form::Other, Why::Long);
-    }
-    let s = inside(ids::part(line, 0, n));
-    let form = form_of(field(s, 0));
-    let why = line_of(s, queries, bytes, words, times, reals, dists, form);
-    judged(r, form, why)
-}
-
-// After what is taken of the text, of a case that goes to the line `end` or to the end of the text. After a line that is no form, lines are passed over.
-fn after(
-    line: &[u8],
-    queries: &mut [u8],
-    bytes: &mut [u8],
-    words: &mut [u32],
-    times: &mut [i64],
-    reals: &mut [f64],
-    dists: &mut [f32],
-    end: &[u8],
-    taken: Taken,
-    r: Reading,
-) -> Reading {
-    let n = taken.length;
-    let mut next = r;
-    next.at = taken.at;
-    next.n = taken.n;
-    if taken.over {
-        next.over = true;
-        next.last = true;
-        return next;
-    }
-    if texts::same(ids::part(line, 0, n), end) {
-        next.over = true;
-        return next;
-    }
-    if !next.good {
-        return next;
-    }
-    next_of(line, n, queries, bytes, words, times, reals, dists, next)
-}
-
-// Takes the next line.
-fn step(
-    stdin: &mut impl Read,
-    text: &mut [u8],
-    line: &mut [u8],
-    queries: &mut [u8],
-    bytes: &mut [u8],
-    words: &mut [u32],
-    times: &mut [i64],
-    reals: &mut [f64],
-    dists: &mut [f32],
-    end: &[u8],
-    r: Reading,
-) -> io::Result<Reading> {
-    let taken = next_line(stdin, text, line, r.at, r.n)?;
-    Ok(after(
-        line, queries, bytes, words, times, reals, dists, end, taken, r,
-    ))
+    pools: &mut Pools,
+) -> Result<(), Fault> {
+    let unnamed = |why| Fault {
+        line,
+        form: None,
+        why,
+    };
+    let text = text.ok_or(unnamed(Why::Long))?;
+    let s = inside(text).ok_or(unnamed(Why::Name))?;
+    let form = Form::named(field(s, 0));
+    read_words(s, form, queries, pools).map_err(|why| Fault { line, form, why })
 }
 
 // A case has a feed, a trip and a clock.
-fn lacking(words: &[u32]) -> Why {
-    if count(words, layout::HELD_FEEDS) == 0 {
-        return Why::NoFeed;
+fn lacks(held: &Case) -> Result<(), Why> {
+    if held.feeds == 0 {
+        return Err(Why::NoFeed);
     }
-    if count(words, layout::HELD_KEYS) == 0 {
-        return Why::NoTrip;
+    if held.keys == 0 {
+        return Err(Why::NoTrip);
     }
-    if count(words, layout::HELD_NOWS) == 0 {
-        return Why::NoNow;
+    if held.nows == 0 {
+        return Err(Why::NoNow);
     }
-    Why::Nothing
+    Ok(())
 }
 
-// After the last line.
-fn ended(words: &[u32], r: Reading) -> Reading {
-    if !r.over {
-        return at_fault(r, r.lines, Form::Other, Why::Endless);
-    }
-    if !r.good {
-        return r;
-    }
-    match lacking(words) {
-        Why::Nothing => r,
-        why => at_fault(r, r.lines, Form::Other, why),
-    }
-}
-
-// Reads a case from standard input, up to a line `end` or the end of the text: `text` and `line` hold a chunk and a line, and queries are kept in `queries`.
+// Reads a case, up to a line `end` or the end of the text, into pools that hold none. After a line that is no form, lines are passed over.
 pub fn read(
-    stdin: &mut impl Read,
-    text: &mut [u8],
-    line: &mut [u8],
+    input: &mut impl Read,
+    lines: &mut Lines,
     queries: &mut [u8],
-    bytes: &mut [u8],
-    words: &mut [u32],
-    times: &mut [i64],
-    reals: &mut [f64],
-    dists: &mut [f32],
+    pools: &mut Pools,
     end: &[u8],
-    from: Reading,
 ) -> io::Result<Reading> {
-    let mut so_far = from;
-    let mut k: u64 = 0;
-    while k < LINES {
-        so_far = step(
-            stdin, text, line, queries, bytes, words, times, reals, dists, end, so_far,
-        )?;
-        k = turn(k, so_far.over);
+    let mut outcome = Ok(());
+    for line in 0..LINES {
+        let taken = lines.next_line(input)?;
+        let text = lines.line(taken.unwrap_or(0));
+        if taken.is_none() || text == Some(end) {
+            let unnamed = |why| Fault {
+                line,
+                form: None,
+                why,
+            };
+            return Ok(Reading {
+                outcome: outcome.and_then(|()| lacks(&pools.held).map_err(unnamed)),
+                last: taken.is_none(),
+            });
+        }
+        if outcome.is_ok() {
+            outcome = read_line(text, line + 1, queries, pools);
+        }
     }
-    Ok(ended(words, so_far))
-}
-
-// Writes the refusal of a text that is no case, and its cause.
-pub fn print_fault(out: &impl Print, err: &impl Print, r: Reading) -> io::Result<()> {
-    let form = r.form;
-    let why = r.why;
-    case_answers::print_fault(out, err, r.lines, form, why)
+    Ok(Reading {
+        outcome: Err(Fault {
+            line: LINES,
+            form: None,
+            why: Why::Endless,
+        }),
+        last: false,
+    })
 }

@@ -1,11 +1,11 @@
 -- A chain's line: from end to end of the leg, with what is kept between them. Assumes nothing.
+use Rattle.std.specs.Prelude.{Option}
 use Prim.Native.Nat.{ℕ, suc, ◌+◌, ◌-◌, ◌<◌, ◌≤◌}
 use native.Mathlib.Omega.{arith}
 use mathlib.Core.Path.{◌≡◌, refl, ap, ◌∙◌}
 use mathlib.Core.List.{List}
 use lib.ListN.{length}
 use Rattle.lengths.specs.declared.line.Point.{Point}
-use Rattle.projection.specs.declared.cursor.Position.{Position}
 use Rattle.line_parts.specs.Part.{at}
 use Rattle.chain_rows.specs.declared.chain.Chain.{Chain}
 use Rattle.chain_lines.specs.Thin.{turned_if, chain_from, ended}
@@ -13,7 +13,7 @@ use Rattle.chain_lines.specs.Chain.{line_from}
 use Rattle.chain_lines.proofs.Thinning.{kept_below, at_most}
 use Rattle.chain_lines.proofs.Ends.{two_at_least, two_more_at_most, few_length, more_length, first_vertex, last_vertex, turned_length}
 
-module _ (stop : ℕ → Position) (chain : Chain) where
+module _ (stop : ℕ → Option Point) (chain : Chain) where
   abbrev line : List Point
   line = line_from stop chain
 

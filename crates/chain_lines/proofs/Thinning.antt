@@ -1,4 +1,5 @@
 -- A pass over rows keeps the points that are thinned, one by one. Assumes nothing.
+use Rattle.std.specs.Prelude.{Option, Some, None}
 use Prim.Native.Nat.{ℕ, zero, suc, ◌+◌, ◌≤◌}
 use native.Mathlib.Omega.{arith}
 use native.Mathlib.Numerals.{add-one}
@@ -9,8 +10,6 @@ use lib.ListN.{length, length-append}
 use borrow.Author.Tests.{lt-ltb}
 use Rattle.lengths.specs.Line.{nowhere}
 use Rattle.lengths.specs.declared.line.Point.{Point}
-use Rattle.projection.specs.declared.cursor.Position.{Position}
-use Rattle.projection.specs.declared.cursor.Position.TheVariants.{Known, Missing}
 use Rattle.chain_stretches.specs.Near.{is_near}
 use Rattle.chain_lines.specs.Thin.{thin_after, thinned}
 use Rattle.chain_lines.specs.Stops.{point_or, points_of, points_below}
@@ -38,9 +37,9 @@ turned true l = refl
 turned false l = refl
 
 -- one more stop
-stop_more : (ps : List Point) (s : Position) → thinned (ps ++ points_of s) ≡ thinned ps ++ cond (is_kept (last_of (thinned ps)) s) (point_or s ∷ []) []
-stop_more ps (Known q) = thinned_more ps q ∙ ap (λ (l : List Point). thinned ps ++ l) (turned (is_dropped (last_of (thinned ps)) q) (q ∷ []))
-stop_more ps Missing = ap thinned (append-nil ps) ∙ sym (append-nil (thinned ps))
+stop_more : (ps : List Point) (s : Option Point) → thinned (ps ++ points_of s) ≡ thinned ps ++ cond (is_kept (last_of (thinned ps)) s) (point_or s ∷ []) []
+stop_more ps (Some q) = thinned_more ps q ∙ ap (λ (l : List Point). thinned ps ++ l) (turned (is_dropped (last_of (thinned ps)) q) (q ∷ []))
+stop_more ps None = ap thinned (append-nil ps) ∙ sym (append-nil (thinned ps))
 
 last_one : (d p : Point) (ks : List Point) → last_or d (ks ++ (p ∷ [])) ≡ p
 unfolding last_or
@@ -48,11 +47,11 @@ last_one d p [] = refl
 last_one d p (k ∷ ks) = last_one k p ks
 
 -- what is kept last, after one more
-last_more : (ks : List Point) (s : Position) (keep : Bool) → last_of (ks ++ cond keep (point_or s ∷ []) []) ≡ after_of (last_of ks) s keep
+last_more : (ks : List Point) (s : Option Point) (keep : Bool) → last_of (ks ++ cond keep (point_or s ∷ []) []) ≡ after_of (last_of ks) s keep
 last_more ks s true = rw (last_one nowhere (point_or s) ks, length-append ks (point_or s ∷ []))
 last_more ks s false = rw (append-nil ks)
 
-module _ (stop : ℕ → Position) where
+module _ (stop : ℕ → Option Point) where
   -- what is kept of the first n rows
   abbrev pub kept_below : ℕ → List Point
   kept_below n = thinned (points_below stop n)
@@ -82,7 +81,7 @@ rows q zero = []
 rows q (suc n) = rows q n ++ cond (q n) (n ∷ []) []
 
 -- what is kept are the points of the rows that are
-module _ (stop : ℕ → Position) where
+module _ (stop : ℕ → Option Point) where
   abbrev pub point_at : ℕ → Point
   point_at i = point_or (stop i)
 

@@ -1,9 +1,7 @@
 -- Which stops a pass keeps. Definitions only.
-use Rattle.std.specs.Prelude.{ℕ, ◌+◌, Bool, false, ◌&&◌, not, cond, List, [], ◌∷◌, ltb, length}
+use Rattle.std.specs.Prelude.{ℕ, ◌+◌, Bool, false, ◌&&◌, not, cond, List, [], ◌∷◌, ltb, length, Option, Some, None}
 use Rattle.lengths.specs.Line.{nowhere}
 use Rattle.lengths.specs.declared.line.Point.{Point}
-use Rattle.projection.specs.declared.cursor.Position.{Position}
-use Rattle.projection.specs.declared.cursor.Position.TheVariants.{Known, Missing}
 use Rattle.chain_lines.specs.declared.kept.Last.{Last}
 use Rattle.chain_stretches.specs.Near.{is_near}
 use Rattle.chain_lines.specs.Thin.{thinned}
@@ -14,12 +12,12 @@ unfoldable pub is_dropped : Last → Point → Bool
 is_dropped last p = ltb 0 last.kept && is_near last.at p
 
 -- a stop is kept; one without a position is not
-abbrev pub is_kept : Last → Position → Bool
-is_kept last (Known p) = not (is_dropped last p)
-is_kept last Missing = false
+abbrev pub is_kept : Last → Option Point → Bool
+is_kept last (Some p) = not (is_dropped last p)
+is_kept last None = false
 
 -- after it
-abbrev pub after_of : Last → Position → Bool → Last
+abbrev pub after_of : Last → Option Point → Bool → Last
 after_of last stop keep = cond keep (record { kept = last.kept + 1; at = point_or stop }) last
 
 -- the last of some points
@@ -32,5 +30,5 @@ abbrev pub last_of : List Point → Last
 last_of kept = record { kept = length kept; at = last_or nowhere kept }
 
 -- row i is kept: its stop is, after those before it
-abbrev pub row_kept : (ℕ → Position) → ℕ → Bool
+abbrev pub row_kept : (ℕ → Option Point) → ℕ → Bool
 row_kept stop i = is_kept (last_of (thinned (points_below stop i))) (stop i)

@@ -5,7 +5,6 @@ ghost use Rattle.chain_lines.specs.Kept.{is_dropped, is_kept, after_of};
 use crate::stop::point_or;
 use chain_stretches::near;
 use lengths::Point;
-use projection::Position;
 
 // How many stops are kept so far, and the last of them.
 #[derive(Clone, Copy)]
@@ -25,17 +24,17 @@ fn drops(last: Last, p: Point) -> bool
 }
 
 // Whether a stop is kept. One without a position is not.
-pub fn keeps(last: Last, stop: Position) -> bool
+pub fn keeps(last: Last, stop: Option<Point>) -> bool
     ensures { result ≡ is_kept last stop }
 {
     match stop {
-        Position::Known(p) => !drops(last, p),
-        Position::Missing => false,
+        Some(p) => !drops(last, p),
+        None => false,
     }
 }
 
 // After a stop that is kept, or is not.
-pub fn after(last: Last, stop: Position, keep: bool) -> Last
+pub fn after(last: Last, stop: Option<Point>, keep: bool) -> Last
     requires { last.kept < 4294967296 }
     ensures { result ≡ after_of last stop keep }
 {

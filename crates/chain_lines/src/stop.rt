@@ -7,7 +7,6 @@ ghost use Rattle.chain_lines.specs.Chain.{stop_of};
 use chain_rows::Chain;
 use ids::cell;
 use lengths::Point;
-use projection::Position;
 use tables::{StopTimes, Stops};
 use trip_rows::row_position;
 
@@ -35,7 +34,7 @@ pub fn stop_of(
     c: StopTimes,
     chain: Chain,
     i: usize,
-) -> Position
+) -> Option<Point>
     requires { i < chain.count }
     ensures { result ≡ stop_of bytes.now words.now reals.now s c chain i }
 {
@@ -43,7 +42,7 @@ pub fn stop_of(
     if is_between(words, c, chain.lo, chain.hi, row) {
         return row_position(bytes, words, reals, s, c, row);
     }
-    Position::Missing
+    None
 }
 
 // No point.
@@ -57,11 +56,11 @@ pub fn no_point() -> Point
 }
 
 // The point of a position, and no point where it is missing.
-pub fn point_or(stop: Position) -> Point
+pub fn point_or(stop: Option<Point>) -> Point
     ensures { result ≡ point_or stop }
 {
     match stop {
-        Position::Known(p) => p,
-        Position::Missing => no_point(),
+        Some(p) => p,
+        None => no_point(),
     }
 }

@@ -6,7 +6,7 @@ ghost use Rattle.routes.specs.Route.{inside_of, along_of};
 ghost use Rattle.chain_lines.specs.Chain.{stop_of, line_from};
 ghost use Rattle.chain_vertices.specs.Marks.{Marked};
 
-use crate::passes::{less, stretch_of};
+use crate::passes::stretch_of;
 use chain_rows::Chain;
 use chain_stretches::on_two;
 use chain_vertices::{onward, seek};
@@ -51,6 +51,7 @@ fn inside(
 }
 
 // At any fraction.
+#[tactic(auto, unfolding(routes::specs::Route::along_of))]
 pub fn along(
     bytes: &[u8],
     words: &[u32],
@@ -68,16 +69,13 @@ pub fn along(
     ensures { result ≡ along_of (line_from (stop_of bytes.now words.now reals.now s c chain) chain) route f }
 {
     let part = route.part;
-    if part.last <= part.first {
-        return Spot::First;
+    if part.last <= part.first || f <= 0.0 {
+        Spot::First
+    } else if f >= 1.0 {
+        Spot::NoStretch
+    } else {
+        inside(bytes, words, reals, s, c, chain, marks, n, route, f)
     }
-    if f <= 0.0 {
-        return Spot::First;
-    }
-    if f >= 1.0 {
-        return Spot::NoStretch;
-    }
-    inside(bytes, words, reals, s, c, chain, marks, n, route, f)
 }
 
 // The position at the first vertex of a part, towards the next; bearing 0 where it has no other.
@@ -100,12 +98,13 @@ fn first_drawn(
     let p = here.at;
     if part.first < part.last {
         let there = onward(bytes, words, reals, s, c, chain, marks, n, part.first, here);
-        return on_two(p, there.at, Spot::First);
-    }
-    Drawn {
-        lat: p.lat,
-        lon: p.lon,
-        bearing: 0.0,
+        on_two(p, there.at, Spot::First)
+    } else {
+        Drawn {
+            lat: p.lat,
+            lon: p.lon,
+            bearing: 0.0,
+        }
     }
 }
 
@@ -179,7 +178,7 @@ fn last_drawn(
         chain,
         marks,
         n,
-        less(part.last, 1),
+        part.last.saturating_sub(1),
     );
     let there = seek(bytes, words, reals, s, c, chain, marks, n, part.last);
     on_two(here.at, there.at, Spot::NoStretch)

@@ -1,5 +1,5 @@
 // The length of a chain, and the stretch of it that a target meets.
-ghost use Rattle.std.specs.Prelude.{◌≡◌, length, ◌-◌};
+ghost use Rattle.std.specs.Prelude.{◌≡◌, length};
 ghost use Rattle.line_parts.specs.Part.{part_length};
 ghost use Rattle.first_stretch.specs.Search.{stretch_at};
 ghost use Rattle.routes.specs.Route.{nano};
@@ -13,16 +13,6 @@ use lengths::metres;
 use line_parts::Part;
 use stretches::Spot;
 use tables::{StopTimes, Stops};
-
-// a less b, and 0 where b is the greater.
-pub fn less(a: usize, b: usize) -> usize
-    ensures { result ≡ a - b }
-{
-    if a < b {
-        return 0;
-    }
-    a - b
-}
 
 // The length of a part of a chain of n vertices.
 pub fn length_of(
@@ -40,26 +30,12 @@ pub fn length_of(
     requires n_value { n ≡ length (line_from (stop_of bytes.now words.now reals.now s c chain) chain) }
     ensures { result ≡ part_length (line_from (stop_of bytes.now words.now reals.now s c chain) chain) part }
 {
-    let all = less(part.last, part.first);
     let mut here = seek(bytes, words, reals, s, c, chain, marks, n, part.first);
     let mut sum = 0.0;
-    let mut j = 0;
-    while j < all {
-        let there = onward(
-            bytes,
-            words,
-            reals,
-            s,
-            c,
-            chain,
-            marks,
-            n,
-            part.first + j,
-            here,
-        );
-        sum = sum + metres(here.at, there.at);
+    for k in part.first..part.last {
+        let there = onward(bytes, words, reals, s, c, chain, marks, n, k, here);
+        sum += metres(here.at, there.at);
         here = there;
-        j += 1;
     }
     sum
 }
@@ -81,30 +57,16 @@ pub fn stretch_of(
     requires n_value { n ≡ length (line_from (stop_of bytes.now words.now reals.now s c chain) chain) }
     ensures { result ≡ stretch_at (line_from (stop_of bytes.now words.now reals.now s c chain) chain) part nano target }
 {
-    let all = less(part.last, part.first);
     let mut here = seek(bytes, words, reals, s, c, chain, marks, n, part.first);
     let mut sum = 0.0;
-    let mut j = 0;
-    while j < all {
-        let there = onward(
-            bytes,
-            words,
-            reals,
-            s,
-            c,
-            chain,
-            marks,
-            n,
-            part.first + j,
-            here,
-        );
+    for k in part.first..part.last {
+        let there = onward(bytes, words, reals, s, c, chain, marks, n, k, here);
         let next = sum + metres(here.at, there.at);
         if met(target, sum, next) {
-            return Spot::Stretch(part.first + j, fraction(target, sum, next));
+            return Spot::Stretch(k, fraction(target, sum, next));
         }
         sum = next;
         here = there;
-        j += 1;
     }
     Spot::NoStretch
 }

@@ -1,14 +1,13 @@
 -- The rows of a chain in its direction. Assumes nothing.
+use Rattle.std.specs.Prelude.{Option, Some, None}
 use Prim.Native.Nat.{ℕ, zero, suc, ◌-◌, ◌<◌, ◌≤◌}
 use native.Mathlib.Omega.{arith}
 use mathlib.Core.Path.{◌≡◌, refl, sym, ap, ◌∙◌}
 use mathlib.Core.Bool.{Bool, true, false, cond}
 use mathlib.Core.List.{List, [], ◌∷◌, ◌++◌, append_assoc, append-nil, map, reverse, reverse-append, reverse-cons, map-append}
 use Rattle.ids.specs.First.{last}
-use Rattle.ids.specs.declared.lookup.Found.TheVariants.{At, Nothing}
 use Rattle.ids.proofs.ByteOrder.{clash}
 use Rattle.lengths.specs.declared.line.Point.{Point}
-use Rattle.projection.specs.declared.cursor.Position.{Position}
 use Rattle.chain_rows.specs.declared.chain.Chain.{Chain}
 use Rattle.chain_lines.specs.Thin.{turned_if}
 use Rattle.chain_lines.specs.Kept.{row_kept}
@@ -53,7 +52,7 @@ all_points q f false n =
     ap (map f) (sym (forth q n n (omega arith) ∙ all))
 
 -- of all rows, what is ahead are the stops that are kept, in the chain's direction
-pub all_ahead : (stop : ℕ → Position) (chain : Chain) → points_ahead stop chain chain.count ≡ turned_if chain.reversed (kept_below stop chain.count)
+pub all_ahead : (stop : ℕ → Option Point) (chain : Chain) → points_ahead stop chain chain.count ≡ turned_if chain.reversed (kept_below stop chain.count)
 all_ahead stop chain =
     all_points (row_kept stop) (point_at stop) chain.reversed chain.count ∙ ap (turned_if chain.reversed) (sym (kept_rows stop chain.count))
 
@@ -62,22 +61,22 @@ module _ (q : ℕ → Bool) (row : ℕ → ℕ) where
   abbrev passes : ℕ → Bool
   passes m = q (row m)
 
-  found_step : (n m : ℕ) (b : Bool) → (last passes n ≡ At m → ahead q row n ≡ row m ∷ ahead q row m) → cond b (At n) (last passes n) ≡ At m →
+  found_step : (n m : ℕ) (b : Bool) → (last passes n ≡ Some m → ahead q row n ≡ row m ∷ ahead q row m) → cond b (Some n) (last passes n) ≡ Some m →
       cond b (row n ∷ ahead q row n) (ahead q row n) ≡ row m ∷ ahead q row m
   found_step n m true h e = let k : n ≡ m = cc in rw k
   found_step n m false h e = h e
 
-  pub found_ahead : (n m : ℕ) → last passes n ≡ At m → ahead q row n ≡ row m ∷ ahead q row m
+  pub found_ahead : (n m : ℕ) → last passes n ≡ Some m → ahead q row n ≡ row m ∷ ahead q row m
   unfolding ahead last
   found_ahead zero m e = clash (cc)
   found_ahead (suc n) m e = found_step n m (q (row n)) (found_ahead n m) e
 
-  none_step : (n : ℕ) (b : Bool) → (last passes n ≡ Nothing → ahead q row n ≡ []) → cond b (At n) (last passes n) ≡ Nothing →
+  none_step : (n : ℕ) (b : Bool) → (last passes n ≡ None → ahead q row n ≡ []) → cond b (Some n) (last passes n) ≡ None →
       cond b (row n ∷ ahead q row n) (ahead q row n) ≡ []
   none_step n true h e = clash (cc)
   none_step n false h e = h e
 
-  pub none_ahead : (n : ℕ) → last passes n ≡ Nothing → ahead q row n ≡ []
+  pub none_ahead : (n : ℕ) → last passes n ≡ None → ahead q row n ≡ []
   unfolding ahead last
   none_ahead zero e = refl
   none_ahead (suc n) e = none_step n (q (row n)) (none_ahead n) e

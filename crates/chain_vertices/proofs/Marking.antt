@@ -1,17 +1,18 @@
 -- A turn of the pass that marks rows. Assumes nothing.
+use Rattle.std.specs.Prelude.{Option}
+use Rattle.lengths.specs.declared.line.Point.{Point}
 use Prim.Native.Nat.{ℕ, suc, ◌+◌, ◌/◌, ◌<◌}
 use native.Mathlib.Omega.{arith}
 use mathlib.Core.Path.{◌≡◌, sym, ap, subst, ◌∙◌}
 use mathlib.Core.Bool.{Bool}
 use mathlib.Core.List.{List}
-use Rattle.projection.specs.declared.cursor.Position.{Position}
 use Rattle.chain_lines.specs.declared.kept.Last.{Last}
 use Rattle.chain_lines.specs.Kept.{is_kept, after_of, last_of, row_kept}
 use Rattle.chain_vertices.specs.Marks.{put_of}
 use Rattle.chain_lines.proofs.Thinning.{kept_below, last_row}
 use Rattle.chain_vertices.proofs.Bits.{Begun, goes_on}
 
-module _ (stop : ℕ → Position) (i : ℕ) (last : Last) (s : Position) (keep : Bool) (l : last ≡ last_of (kept_below stop i)) (e : s ≡ stop i) (k : keep ≡ is_kept last s) where
+module _ (stop : ℕ → Option Point) (i : ℕ) (last : Last) (s : Option Point) (keep : Bool) (l : last ≡ last_of (kept_below stop i)) (e : s ≡ stop i) (k : keep ≡ is_kept last s) where
   as_kept : keep ≡ row_kept stop i
   as_kept = k ∙ ap (λ (x : Last). is_kept x s) l ∙ ap (is_kept (last_of (kept_below stop i))) e
 

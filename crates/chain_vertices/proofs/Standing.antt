@@ -1,4 +1,5 @@
 -- A pass over a chain stands at its vertices, one after the other. Assumes nothing.
+use Rattle.std.specs.Prelude.{Option, Some, None}
 use Prim.Native.Nat.{ℕ, suc, ◌-◌, ◌<◌, ◌≤◌}
 use native.Mathlib.Omega.{arith}
 use mathlib.Core.Path.{◌≡◌, sym, ap, ◌∙◌}
@@ -7,11 +8,9 @@ use mathlib.Core.List.{List, [], ◌∷◌, map}
 use lib.ListN.{length, drop, get_or, get_or-eq_default}
 use lib.Seq.{drop-cons}
 use Rattle.ids.specs.First.{last}
-use Rattle.ids.specs.declared.lookup.Found.TheVariants.{At, Nothing}
 use Rattle.ids.proofs.Search.{last_found}
 use Rattle.lengths.specs.Line.{nowhere}
 use Rattle.lengths.specs.declared.line.Point.{Point}
-use Rattle.projection.specs.declared.cursor.Position.{Position}
 use Rattle.line_parts.specs.Part.{at}
 use Rattle.chain_rows.specs.declared.chain.Chain.{Chain}
 use Rattle.chain_vertices.specs.declared.vertices.Here.{Here}
@@ -33,10 +32,10 @@ row_below false n m h = omega arith
 pub of_trip : (chain : Chain) (m : ℕ) → m < chain.count → row_of chain m < chain.count
 of_trip chain m h = row_below chain.reversed chain.count m h
 
-pub next_within : (chain : Chain) (marks : List ℕ) (left m : ℕ) → left ≤ chain.count → last (marked_ahead chain marks) left ≡ At m → m < chain.count
+pub next_within : (chain : Chain) (marks : List ℕ) (left m : ℕ) → left ≤ chain.count → last (marked_ahead chain marks) left ≡ Some m → m < chain.count
 next_within chain marks left m h e = omega (arith, (last_found (marked_ahead chain marks) left m e).0)
 
-module _ (stop : ℕ → Position) (chain : Chain) where
+module _ (stop : ℕ → Option Point) (chain : Chain) where
   abbrev line : List Point
   line = line_from stop chain
 
@@ -49,10 +48,10 @@ module _ (stop : ℕ → Position) (chain : Chain) where
     next_kept : last (marked_ahead chain marks) left ≡ last (λ (m : ℕ). row_kept stop (row_of chain m)) left
     next_kept = last_same (marked_ahead chain marks) (λ (m : ℕ). row_kept stop (row_of chain m)) left (λ m h. right (row_of chain m) (of_trip chain m (omega arith)))
 
-    pub next_points : (m : ℕ) → last (marked_ahead chain marks) left ≡ At m → points_ahead stop chain left ≡ point_at stop (row_of chain m) ∷ points_ahead stop chain m
+    pub next_points : (m : ℕ) → last (marked_ahead chain marks) left ≡ Some m → points_ahead stop chain left ≡ point_at stop (row_of chain m) ∷ points_ahead stop chain m
     next_points m e = ap (map (point_at stop)) (found_ahead (row_kept stop) (row_of chain) left m (sym next_kept ∙ e))
 
-    pub no_points : last (marked_ahead chain marks) left ≡ Nothing → points_ahead stop chain left ≡ []
+    pub no_points : last (marked_ahead chain marks) left ≡ None → points_ahead stop chain left ≡ []
     no_points e = ap (map (point_at stop)) (none_ahead (row_kept stop) (row_of chain) left (sym next_kept ∙ e))
 
   -- the points after the first
@@ -61,14 +60,14 @@ module _ (stop : ℕ → Position) (chain : Chain) where
 
   module _ (marks : List ℕ) (right : Marked stop chain.count marks) where
     -- at the first vertex
-    pub starts : (m : ℕ) → last (marked_ahead chain marks) chain.count ≡ At m → Stands stop chain (record { left = m; at = chain.from }) 0
+    pub starts : (m : ℕ) → last (marked_ahead chain marks) chain.count ≡ Some m → Stands stop chain (record { left = m; at = chain.from }) 0
     starts m e = record {
       is = rw (line_is stop chain) (sym (first_vertex chain.from chain.to kept));
       within = omega (arith, next_within chain marks chain.count m (omega arith) e);
       rest = λ l. sym (after_first kept (sym (all_ahead stop chain) ∙ next_points marks right chain.count (omega arith) m e));
     }
 
-    pub starts_bare : last (marked_ahead chain marks) chain.count ≡ Nothing → Stands stop chain (record { left = 0; at = chain.from }) 0
+    pub starts_bare : last (marked_ahead chain marks) chain.count ≡ None → Stands stop chain (record { left = 0; at = chain.from }) 0
     unfolding ahead
     starts_bare e = record {
       is = rw (line_is stop chain) (sym (first_vertex chain.from chain.to kept));
@@ -96,10 +95,10 @@ module _ (stop : ℕ → Position) (chain : Chain) where
     rest_is : points_ahead stop chain here.left ≡ get_or kept (suc k) nowhere ∷ drop (suc (suc k)) kept
     rest_is = at_k.rest (omega arith) ∙ drop-cons kept (suc k) nowhere kept_next
 
-    pub never_bare : last (marked_ahead chain marks) here.left ≡ Nothing → ◌≡◌ {A = ℕ} 0 1
+    pub never_bare : last (marked_ahead chain marks) here.left ≡ None → ◌≡◌ {A = ℕ} 0 1
     never_bare e = let x = sym (no_points marks right here.left at_k.within e) ∙ rest_is in cc
 
-    pub goes : (m : ℕ) → last (marked_ahead chain marks) here.left ≡ At m → Stands stop chain (record { left = m; at = point_at stop (row_of chain m) }) (suc k)
+    pub goes : (m : ℕ) → last (marked_ahead chain marks) here.left ≡ Some m → Stands stop chain (record { left = m; at = point_at stop (row_of chain m) }) (suc k)
     goes m e =
         let x = sym (next_points marks right here.left at_k.within m e) ∙ rest_is in
         let p : point_at stop (row_of chain m) ≡ get_or kept (suc k) nowhere = cc in

@@ -1,7 +1,6 @@
 -- What a pass over a chain's vertices carries. Definitions only.
-use Rattle.std.specs.Prelude.{ℕ, zero, suc, ◌-◌, ◌<◌, ◌≤◌, Bool, cond, List, [], ◌∷◌, map, ◌≡◌, length, drop}
+use Rattle.std.specs.Prelude.{ℕ, zero, suc, ◌-◌, ◌<◌, ◌≤◌, Bool, cond, List, [], ◌∷◌, map, ◌≡◌, length, drop, Option}
 use Rattle.lengths.specs.declared.line.Point.{Point}
-use Rattle.projection.specs.declared.cursor.Position.{Position}
 use Rattle.line_parts.specs.Part.{at}
 use Rattle.chain_rows.specs.declared.chain.Chain.{Chain}
 use Rattle.chain_vertices.specs.declared.vertices.Here.{Here}
@@ -25,11 +24,11 @@ ahead kept row zero = []
 ahead kept row (suc m) = cond (kept (row m)) (row m ∷ ahead kept row m) (ahead kept row m)
 
 -- their points
-abbrev pub points_ahead : (ℕ → Position) → Chain → ℕ → List Point
+abbrev pub points_ahead : (ℕ → Option Point) → Chain → ℕ → List Point
 points_ahead stop chain m = map (λ (i : ℕ). point_or (stop i)) (ahead (row_kept stop) (row_of chain) m)
 
 -- a pass stands at vertex k: it has its point, and what is kept of the rows ahead are the stops after it
-pub record Stands (stop : ℕ → Position) (chain : Chain) (here : Here) (k : ℕ) : Type 0 where
+pub record Stands (stop : ℕ → Option Point) (chain : Chain) (here : Here) (k : ℕ) : Type 0 where
   pub is : here.at ≡ at (line_from stop chain) k
   pub within : here.left ≤ chain.count
   pub rest : suc k < length (line_from stop chain) → points_ahead stop chain here.left ≡ drop (suc k) (turned_if chain.reversed (thinned (points_below stop chain.count)))

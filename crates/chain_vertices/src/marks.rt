@@ -15,12 +15,9 @@ fn put(marks: &mut [u64], i: usize, bit: bool)
     requires i_bound { get_or marks.old (i / 64) 0 < 2 ^ (i % 64) }
     ensures { marks.new ≡ put_of marks.old i bit }
 {
-    if !bit {
-        return;
+    if bit {
+        marks[i / 64] += 1 << (i % 64);
     }
-    let w = i / 64;
-    let power = 1 << (i % 64);
-    marks[w] = marks[w] + power;
 }
 
 // Whether bit i is set.
@@ -28,10 +25,7 @@ pub fn marked(marks: &[u64], i: usize) -> bool
     ensures { result ≡ is_marked marks.now i }
 {
     let w = i / 64;
-    if marks.len() <= w {
-        return false;
-    }
-    marks[w] / (1 << (i % 64)) % 2 == 1
+    w < marks.len() && marks[w] / (1 << (i % 64)) % 2 == 1
 }
 
 // Marks the rows that are kept, and says how many they are.
@@ -49,18 +43,15 @@ pub fn mark(
     ensures value { result ≡ length (thinned (points_below (stop_of bytes.now words.now reals.now s c chain) chain.count)) }
     ensures marked { Marked (stop_of bytes.now words.now reals.now s c chain) chain.count marks.new }
 {
-    let n = chain.count as usize;
     let mut last = Last {
         kept: 0,
         at: no_point(),
     };
-    let mut i = 0;
-    while i < n {
+    for i in 0..chain.count as usize {
         let stop = stop_of(bytes, words, reals, s, c, chain, i);
         let keep = keeps(last, stop);
         put(marks, i, keep);
         last = after(last, stop, keep);
-        i += 1;
     }
     last.kept
 }

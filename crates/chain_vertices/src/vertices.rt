@@ -8,7 +8,6 @@ ghost use Rattle.chain_vertices.specs.Vertices.{row_of, marked_ahead, Stands};
 use crate::marks::marked;
 use chain_lines::{no_point, point_or, stop_of};
 use chain_rows::Chain;
-use ids::Found;
 use lengths::Point;
 use tables::{StopTimes, Stops};
 
@@ -24,27 +23,23 @@ fn row_of(chain: Chain, m: usize) -> usize
     ensures { result ≡ row_of chain m }
 {
     if chain.reversed {
-        return m;
+        m
+    } else {
+        (chain.count as usize).saturating_sub(m).saturating_sub(1)
     }
-    let n = chain.count as usize;
-    if n <= m {
-        return 0;
-    }
-    n - m - 1
 }
 
 // How many rows are ahead of the next row that is kept.
-fn next(chain: Chain, marks: &[u64], left: usize) -> Found
+#[tactic(auto, using(ids::proofs::Search::last_hit, ids::proofs::Search::last_skip, ids::proofs::Search::last_miss))]
+fn next(chain: Chain, marks: &[u64], left: usize) -> Option<usize>
     ensures { result ≡ last (marked_ahead chain marks.now) left }
 {
-    let mut m = left;
-    while 0 < m {
-        m -= 1;
+    for m in (0..left).rev() {
         if marked(marks, row_of(chain, m)) {
-            return Found::At(m);
+            return Some(m);
         }
     }
-    Found::Nothing
+    None
 }
 
 // At the first vertex: the first row that is kept is behind.
@@ -62,8 +57,8 @@ pub fn start(
 {
     let from = chain.from;
     match next(chain, marks, chain.count as usize) {
-        Found::At(m) => Here { left: m, at: from },
-        Found::Nothing => Here { left: 0, at: from },
+        Some(m) => Here { left: m, at: from },
+        None => Here { left: 0, at: from },
     }
 }
 
@@ -102,7 +97,7 @@ pub fn onward(
         let to = chain.to;
         return Here { left: 0, at: to };
     }
-    let Found::At(m) = next(chain, marks, here.left) else {
+    let Some(m) = next(chain, marks, here.left) else {
         return Here {
             left: 0,
             at: no_point(),
@@ -137,10 +132,8 @@ pub fn seek(
         };
     }
     let mut here = start(bytes, words, reals, s, c, chain, marks);
-    let mut j = 0;
-    while j < k {
+    for j in 0..k {
         here = onward(bytes, words, reals, s, c, chain, marks, n, j, here);
-        j += 1;
     }
     here
 }

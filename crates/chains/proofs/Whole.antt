@@ -1,11 +1,12 @@
 -- The whole of a chain, by the stops that are kept. Assumes nothing.
+use Rattle.std.specs.Prelude.{Option}
+use Rattle.lengths.specs.declared.line.Point.{Point}
 use Prim.Native.Nat.{ℕ, zero, suc, ◌-◌, ◌<◌, ◌≤◌}
 use mathlib.Core.Path.{◌≡◌, refl, sym}
 use mathlib.Core.Logic.{⊎_elim}
 use lib.Ieee.{Float}
 use lib.ListN.{length, get_or, replicate}
 use borrow.Author.Tests.{lt-ltb, le-ltb}
-use Rattle.projection.specs.declared.cursor.Position.{Position}
 use Rattle.line_parts.specs.Part.{part_length}
 use Rattle.routes.specs.Route.{route_of}
 use Rattle.routes.specs.declared.route.Route.{Route}
@@ -16,7 +17,7 @@ use Rattle.chain_lines.proofs.Ends.{few_or_more}
 use Rattle.chain_lines.proofs.Line.{few_kept, more_kept}
 use Rattle.chains.specs.Route.{chain_route, vertices_of}
 
-module _ (stop : ℕ → Position) (chain : Chain) where
+module _ (stop : ℕ → Option Point) (chain : Chain) where
   -- as many vertices as stops are kept, but two at least
   pub vertices_are : vertices_of (length (kept_below stop chain.count)) ≡ length (line_from stop chain)
   vertices_are =

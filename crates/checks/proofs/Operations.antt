@@ -2,12 +2,12 @@
 use mathlib.Core.Path.{◌≡◌}
 use lib.Dec.{T}
 use Rattle.tables.specs.Pools.{Pools}
-use Rattle.refusals.specs.Refuse.{joined, refusal_of}
+use Rattle.verdicts.specs.Refuse.{joined, refusal_of}
 use Rattle.tables.specs.declared.bounds.Bounds.{Bounds}
 use Rattle.tables.specs.declared.lent.Journey.{Journey}
 use Rattle.tables.specs.declared.lent.Service.{Service}
 use Rattle.tables.specs.declared.lent.Tables.{Tables}
-use Rattle.refusals.proofs.Passed.{numbered, Clear, clear_at, not_refused}
+use Rattle.verdicts.proofs.Passed.{numbered, Clear, clear_at, not_refused}
 use Rattle.trip_rules.specs.Parts.{trips_causes}
 use Rattle.schedule_rules.specs.Parts.{call_times_causes, calls_causes}
 use Rattle.calendar_rules.specs.Parts.{calendars_causes, exceptions_causes, ranges_causes}

@@ -1,5 +1,4 @@
-// The first refusal that applies to an operation of the timetable, or to the estimate, over all of each table that is lent to it. Each answers 0
-// where none does.
+// The first refusal that applies to an operation of the timetable, or to the estimate, over all of each table that is lent to it.
 #![tactic(auto)]
 
 mod check; // check.rt: each operation's check

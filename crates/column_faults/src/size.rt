@@ -8,20 +8,12 @@ use ids::{IdColumn, Span};
 pub fn ill_sized(len: usize, span: Span, n: u32) -> bool
     ensures { result ≡ ill_sized len span n }
 {
-    if len < span.at as usize + span.n as usize {
-        return true;
-    }
-    span.n != n
+    len < span.at as usize + span.n as usize || span.n != n
 }
 
 // The same of either column of ids.
 pub fn ids_ill_sized(len: usize, ids: IdColumn, n: u32) -> bool
     ensures { result ≡ (ill_sized len ids.starts n || ill_sized len ids.lens n) }
 {
-    let starts = ids.starts;
-    let lens = ids.lens;
-    if ill_sized(len, starts, n) {
-        return true;
-    }
-    ill_sized(len, lens, n)
+    ill_sized(len, ids.starts, n) || ill_sized(len, ids.lens, n)
 }

@@ -1,4 +1,6 @@
 -- Rows that are not unsorted ascend: each comes before all later ones. Assumes nothing.
+use Rattle.std.specs.declared.cmp.Ordering.{Ordering}
+use Rattle.std.specs.declared.cmp.Ordering.TheVariants.{Less, Equal, Greater}
 use Prim.Native.Nat.{ℕ, zero, suc, ◌<◌, ◌+◌, ◌-◌}
 use native.Mathlib.Omega.{arith}
 use native.Mathlib.Nat.{eq-or-lt_of_le, le_of_suc-le-suc}
@@ -12,8 +14,6 @@ use lib.Dec.{ltb}
 use Rattle.ids.specs.Cmp.{cmp}
 use Rattle.ids.specs.Pool.{cell_of, id_of}
 use Rattle.ids.specs.Rows.{Ascending}
-use Rattle.ids.specs.declared.order.Order.{Order}
-use Rattle.ids.specs.declared.order.Order.TheVariants.{Less, Same, More}
 use Rattle.ids.specs.declared.pool.IdColumn.{IdColumn}
 use Rattle.ids.specs.declared.pool.Span.{Span}
 use Rattle.ids.proofs.ByteOrder.{clash, less_trans, same_equal}
@@ -25,10 +25,10 @@ use Rattle.column_order.specs.Order.{cmp_parts, cmp_rows, or_next, not_less, out
 use Rattle.column_order.proofs.Keys.{only_part}
 
 -- The order of keys is transitive.
-first_part : (o r : Order) → or_next o r ≡ Less → (o ≡ Less) ⊎ ((o ≡ Same) × (r ≡ Less))
+first_part : (o r : Ordering) → or_next o r ≡ Less → (o ≡ Less) ⊎ ((o ≡ Equal) × (r ≡ Less))
 first_part Less r e = inl refl
-first_part Same r e = inr (refl, e)
-first_part More r e = clash (cc)
+first_part Equal r e = inr (refl, e)
+first_part Greater r e = clash (cc)
 
 pub parts_trans : (a b c : List (List ℕ)) → cmp_parts a b ≡ Less → cmp_parts b c ≡ Less → cmp_parts a c ≡ Less
 unfolding cmp_parts
@@ -43,16 +43,16 @@ parts_trans (x ∷ a) (y ∷ b) (z ∷ c) p q =
     (λ l. let e = sym ((same_equal x y).0 l.0) in ⊎_elim (λ m. simp (rw e at m)) (λ m. simp (rw e at m.0) (parts_trans a b c l.1 m.1)) (first_part (cmp y z) (cmp_parts b c) q))
     (first_part (cmp x y) (cmp_parts a b) p)
 
-less_of : (o : Order) → not_less o ≡ false → o ≡ Less
+less_of : (o : Ordering) → not_less o ≡ false → o ≡ Less
 less_of Less e = refl
-less_of Same e = clash (cc)
-less_of More e = clash (cc)
+less_of Equal e = clash (cc)
+less_of Greater e = clash (cc)
 
 -- Of two numbers that are Less the first is below the second.
-below : (b c : Bool) → cond b Less (cond c More Same) ≡ Less → b ≡ true
+below : (b c : Bool) → cond b Less (cond c Greater Equal) ≡ Less → b ≡ true
 below true c e = refl
 below false c e = never c e where
-  never : (c : Bool) → cond c More Same ≡ Less → false ≡ true
+  never : (c : Bool) → cond c Greater Equal ≡ Less → false ≡ true
   never true e = clash (cc)
   never false e = clash (cc)
 

@@ -1,10 +1,10 @@
 -- The order of a table's rows. A key has parts, each a text: an id, or the one number of a column. Rows stand in the order of the first part
 -- in which they differ.
+use Rattle.std.specs.declared.cmp.Ordering.{Ordering}
+use Rattle.std.specs.declared.cmp.Ordering.TheVariants.{Less, Equal, Greater}
 use Rattle.std.specs.Prelude.{ℕ, ◌+◌, Bool, true, false, List, [], ◌∷◌}
 use Rattle.ids.specs.Cmp.{cmp}
 use Rattle.ids.specs.Pool.{cell_of, id_of}
-use Rattle.ids.specs.declared.order.Order.{Order}
-use Rattle.ids.specs.declared.order.Order.TheVariants.{Less, Same, More}
 use Rattle.columns.specs.Rows.{bit_of}
 use Rattle.column_order.specs.declared.order.Key.{Key}
 use Rattle.column_order.specs.declared.order.Key.TheVariants.{Word, Id, IdWord, Ids, Dated}
@@ -17,27 +17,27 @@ parts_of bytes words (IdWord a s) k = id_of bytes words a k ∷ (cell_of words s
 parts_of bytes words (Ids a b) k = id_of bytes words a k ∷ id_of bytes words b k ∷ []
 parts_of bytes words (Dated a b s f) k = id_of bytes words a k ∷ id_of bytes words b k ∷ (cell_of words s k ∷ []) ∷ (bit_of bytes f k ∷ []) ∷ []
 
--- the first order, and where that is Same the second
-abbrev pub or_next : Order → Order → Order
+-- the first order, and where that is Equal the second
+abbrev pub or_next : Ordering → Ordering → Ordering
 or_next Less o = Less
-or_next Same o = o
-or_next More o = More
+or_next Equal o = o
+or_next Greater o = Greater
 
 -- by the first part that differs
-unfoldable pub cmp_parts : List (List ℕ) → List (List ℕ) → Order
-cmp_parts [] [] = Same
+unfoldable pub cmp_parts : List (List ℕ) → List (List ℕ) → Ordering
+cmp_parts [] [] = Equal
 cmp_parts [] (y ∷ b) = Less
-cmp_parts (x ∷ a) [] = More
+cmp_parts (x ∷ a) [] = Greater
 cmp_parts (x ∷ a) (y ∷ b) = or_next (cmp x y) (cmp_parts a b)
 
 -- how row i stands to row j
-unfoldable pub cmp_rows : List ℕ → List ℕ → Key → ℕ → ℕ → Order
+unfoldable pub cmp_rows : List ℕ → List ℕ → Key → ℕ → ℕ → Ordering
 cmp_rows bytes words key i j = cmp_parts (parts_of bytes words key i) (parts_of bytes words key j)
 
-abbrev pub not_less : Order → Bool
+abbrev pub not_less : Ordering → Bool
 not_less Less = false
-not_less Same = true
-not_less More = true
+not_less Equal = true
+not_less Greater = true
 
 -- row k does not come before the next
 unfoldable pub out_of_order_at : List ℕ → List ℕ → Key → ℕ → Bool

@@ -8,7 +8,8 @@ ghost use Rattle.column_order.specs.Order.{cmp_rows, out_of_order_at};
 ghost use Rattle.column_order.specs.declared.order.Key.TheVariants.{Dated, IdWord, Ids};
 
 use columns::bit;
-use ids::{IdColumn, Order, Span, cell, compare, id};
+use ids::{IdColumn, Span, cell, compare, id};
+use std::cmp::Ordering;
 
 // What a table's rows ascend by. Columns of numbers are spans of the words.
 #[derive(Clone, Copy)]
@@ -26,52 +27,52 @@ pub enum Key {
 }
 
 // How x stands to y.
-pub fn numbers(x: u32, y: u32) -> Order
+pub fn numbers(x: u32, y: u32) -> Ordering
     ensures { result ≡ cmp (x ∷ []) (y ∷ []) }
 {
     if x < y {
-        return Order::Less;
+        return Ordering::Less;
     }
     if y < x {
-        return Order::More;
+        return Ordering::Greater;
     }
-    Order::Same
+    Ordering::Equal
 }
 
 // How row i's number stands to row j's.
-fn by_word(words: &[u32], s: Span, i: usize, j: usize) -> Order
+fn by_word(words: &[u32], s: Span, i: usize, j: usize) -> Ordering
     ensures { result ≡ cmp (cell_of words.now s i ∷ []) (cell_of words.now s j ∷ []) }
 {
     numbers(cell(words, s, i), cell(words, s, j))
 }
 
 // How row i's id stands to row j's.
-fn by_id(bytes: &[u8], words: &[u32], a: IdColumn, i: usize, j: usize) -> Order
+fn by_id(bytes: &[u8], words: &[u32], a: IdColumn, i: usize, j: usize) -> Ordering
     ensures { result ≡ cmp (id_of bytes.now words.now a i) (id_of bytes.now words.now a j) }
 {
     compare(id(bytes, words, a, i), id(bytes, words, a, j))
 }
 
 // By an id, then a number.
-fn by_id_word(bytes: &[u8], words: &[u32], a: IdColumn, s: Span, i: usize, j: usize) -> Order
+fn by_id_word(bytes: &[u8], words: &[u32], a: IdColumn, s: Span, i: usize, j: usize) -> Ordering
     ensures { result ≡ cmp_rows bytes.now words.now (IdWord a s) i j }
 {
     match by_id(bytes, words, a, i, j) {
-        Order::Less => return Order::Less,
-        Order::Same => {}
-        Order::More => return Order::More,
+        Ordering::Less => return Ordering::Less,
+        Ordering::Equal => {}
+        Ordering::Greater => return Ordering::Greater,
     }
     by_word(words, s, i, j)
 }
 
 // By two ids.
-fn by_ids(bytes: &[u8], words: &[u32], a: IdColumn, b: IdColumn, i: usize, j: usize) -> Order
+fn by_ids(bytes: &[u8], words: &[u32], a: IdColumn, b: IdColumn, i: usize, j: usize) -> Ordering
     ensures { result ≡ cmp_rows bytes.now words.now (Ids a b) i j }
 {
     match by_id(bytes, words, a, i, j) {
-        Order::Less => return Order::Less,
-        Order::Same => {}
-        Order::More => return Order::More,
+        Ordering::Less => return Ordering::Less,
+        Ordering::Equal => {}
+        Ordering::Greater => return Ordering::Greater,
     }
     by_id(bytes, words, b, i, j)
 }
@@ -86,24 +87,24 @@ fn by_date(
     f: Span,
     i: usize,
     j: usize,
-) -> Order
+) -> Ordering
     ensures { result ≡ cmp_rows bytes.now words.now (Dated a b s f) i j }
 {
     match by_ids(bytes, words, a, b, i, j) {
-        Order::Less => return Order::Less,
-        Order::Same => {}
-        Order::More => return Order::More,
+        Ordering::Less => return Ordering::Less,
+        Ordering::Equal => {}
+        Ordering::Greater => return Ordering::Greater,
     }
     match by_word(words, s, i, j) {
-        Order::Less => return Order::Less,
-        Order::Same => {}
-        Order::More => return Order::More,
+        Ordering::Less => return Ordering::Less,
+        Ordering::Equal => {}
+        Ordering::Greater => return Ordering::Greater,
     }
     numbers(bit(bytes, f, i), bit(bytes, f, j))
 }
 
 // How row i stands to row j.
-pub fn compare_rows(bytes: &[u8], words: &[u32], key: Key, i: usize, j: usize) -> Order
+pub fn compare_rows(bytes: &[u8], words: &[u32], key: Key, i: usize, j: usize) -> Ordering
     ensures { result ≡ cmp_rows bytes.now words.now key i j }
 {
     match key {
@@ -119,14 +120,8 @@ pub fn compare_rows(bytes: &[u8], words: &[u32], key: Key, i: usize, j: usize) -
 pub fn unsorted(bytes: &[u8], words: &[u32], key: Key, n: usize) -> bool
     ensures { result ≡ some (out_of_order_at bytes.now words.now key) (n - 1) }
 {
-    let mut k = 1;
-    while k < n {
-        match compare_rows(bytes, words, key, k - 1, k) {
-            Order::Less => {}
-            Order::Same => return true,
-            Order::More => return true,
-        }
-        k += 1;
-    }
-    false
+    columns::some_row(
+        n.saturating_sub(1),
+        |k| !matches!(compare_rows(bytes, words, key, k, k + 1), Ordering::Less),
+    )
 }

@@ -4,7 +4,7 @@ use mathlib.Core.Path.{◌≡◌, refl, sym, subst}
 use mathlib.Core.Logic.{⊎_elim}
 use mathlib.Core.Bool.{Bool, true, false, ◌||◌, not}
 use mathlib.Core.List.{List}
-use borrow.Author.Tests.{ltb-false, leb-false, ne_eqb}
+use borrow.Author.Tests.{ltb-false, leb-false}
 use lib.Dec.{T}
 use lib.IntN.{ℤ, pos}
 use lib.ListN.{length, get_or}
@@ -17,16 +17,6 @@ use Rattle.columns.proofs.Scan.{hit}
 -- Where `some` is false the test fails of each.
 pub fails : (p : ℕ → Bool) (n : ℕ) → some p n ≡ false → (k : ℕ) → k < n → p k ≡ false
 fails p n e k l = ⊎_elim (λ t. let h = hit p n k l t in clash (cc)) (λ f. f) (split (p k))
-
--- Which rows count.
-pub all_count : (flags : List ℕ) (k : ℕ) → counts true flags k ≡ true
-unfolding counts
-all_count flags k = refl
-
-pub flagged_counts : (all : Bool) (flags : List ℕ) (k : ℕ) → (get_or flags k 0 ≡ 0 → ⊥) → counts all flags k ≡ true
-unfolding counts
-flagged_counts true flags k h = refl
-flagged_counts false flags k h = simp (ne_eqb (get_or flags k 0) 0 h)
 
 pub neither : (a b : Bool) → (a || b) ≡ false → (a ≡ false) × (b ≡ false)
 neither true b e = clash (cc)

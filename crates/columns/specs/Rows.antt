@@ -7,6 +7,10 @@ unfoldable pub some : (ℕ → Bool) → ℕ → Bool
 some p zero = false
 some p (suc n) = some p n || p n
 
+-- the answers of a test, as `post` has them, are those of `fault`, at each of n rows
+abbrev pub Finds : (ℕ → Bool → Type 0) → (ℕ → Bool) → ℕ → Type 0
+Finds post fault n = (k : ℕ) → k < n → (answer : Bool) → post k answer → answer ≡ fault k
+
 -- row k counts: all do, or its flag is not zero; past the flags' end a flag is zero
 unfoldable pub counts : Bool → List ℕ → ℕ → Bool
 counts all flags k = all || not (eqb (get_or flags k 0) 0)

@@ -3,65 +3,31 @@ ghost use Rattle.std.specs.Prelude.{◌≡◌, min, length};
 ghost use Rattle.columns.specs.Number.{beyond, ends_past_at, outside_at, reaches_at};
 ghost use Rattle.columns.specs.Rows.{among, some};
 
-use crate::row::{both, counted, read};
+use crate::row::some_counted;
 
 // Whether some row is at least n: an index outside a table of n rows, a number above n - 1.
 pub fn reaches(s: &[u32], flags: &[u8], all: bool, n: u64) -> bool
     ensures { result ≡ some (among all flags.now (reaches_at s.now n)) (length s.now) }
 {
-    let rows = read(s.len(), flags, all);
-    let mut k = 0;
-    while k < rows {
-        if counted(flags, all, k) {
-            if n <= s[k] as u64 {
-                return true;
-            }
-        }
-        k += 1;
-    }
-    false
+    some_counted(s.len(), flags, all, |k| n <= u64::from(s[k]))
 }
 
 // Whether some row's first and count, of rows in another table, end past that table's n.
 pub fn ends_past(first: &[u32], count: &[u32], flags: &[u8], all: bool, n: u64) -> bool
     ensures { result ≡ some (among all flags.now (ends_past_at first.now count.now n)) (min (length first.now) (length count.now)) }
 {
-    let rows = read(both(first.len(), count.len()), flags, all);
-    let mut k = 0;
-    while k < rows {
-        if counted(flags, all, k) {
-            if n < first[k] as u64 + count[k] as u64 {
-                return true;
-            }
-        }
-        k += 1;
-    }
-    false
-}
-
-// Whether x is below lo or above hi.
-fn out(lo: i64, hi: i64, x: i64) -> bool
-    ensures { result ≡ beyond lo hi x }
-{
-    if x < lo {
-        return true;
-    }
-    hi < x
+    let rows = first.len().min(count.len());
+    some_counted(
+        rows,
+        flags,
+        all,
+        |k| n < u64::from(first[k]) + u64::from(count[k]),
+    )
 }
 
 // Whether some row is below lo or above hi.
 pub fn outside(s: &[i64], flags: &[u8], all: bool, lo: i64, hi: i64) -> bool
     ensures { result ≡ some (among all flags.now (outside_at s.now lo hi)) (length s.now) }
 {
-    let rows = read(s.len(), flags, all);
-    let mut k = 0;
-    while k < rows {
-        if counted(flags, all, k) {
-            if out(lo, hi, s[k]) {
-                return true;
-            }
-        }
-        k += 1;
-    }
-    false
+    some_counted(s.len(), flags, all, |k| s[k] < lo || hi < s[k])
 }

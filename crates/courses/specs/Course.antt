@@ -1,7 +1,5 @@
 -- A trip's course in the tables: flags, a shape's line, and rows that are found. Definitions only.
-use Rattle.std.specs.Prelude.{ℕ, ◌+◌, Bool, not, List, ◌==◌, Float}
-use Rattle.ids.specs.declared.lookup.Found.{Found}
-use Rattle.ids.specs.declared.lookup.Found.TheVariants.{At, Nothing}
+use Rattle.std.specs.Prelude.{ℕ, ◌+◌, Bool, not, List, ◌==◌, Float, Option, Some, None}
 use Rattle.ids.specs.declared.pool.Span.{Span}
 use Rattle.columns.specs.Rows.{bit_of}
 use Rattle.tables.specs.declared.lent.Shapes.{Shapes}
@@ -16,6 +14,6 @@ unfoldable pub shape_part : List ℕ → List Float → Shapes → Span → ℕ 
 shape_part words reals shapes column shape = shape_column reals column (shape_span words shapes shape)
 
 -- the row that was found after `from`
-abbrev pub row_after : ℕ → Found → Found
-row_after from (At k) = At (from + k)
-row_after from Nothing = Nothing
+abbrev pub row_after : ℕ → Option ℕ → Option ℕ
+row_after from (Some k) = Some (from + k)
+row_after from None = None

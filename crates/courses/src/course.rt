@@ -2,6 +2,7 @@
 ghost use Rattle.std.specs.Prelude.{◌≡◌};
 ghost use Rattle.courses.specs.Course.{shape_part};
 
+use ids::Span;
 use tables::{Points, Shapes, StopTimes, Stops, Trips};
 use trip_rows::{shape_column, shape_span};
 
@@ -14,22 +15,30 @@ pub struct Course {
     pub points: Points,
 }
 
+// A shape's part of a column of all points.
+#[tactic(auto, unfolding(crate::specs::Course::shape_part))]
+fn shape_part<'a>(
+    words: &[u32],
+    reals: &'a [f64],
+    shapes: Shapes,
+    column: Span,
+    shape: usize,
+) -> &'a [f64]
+    ensures { result.now ≡ shape_part words.now reals.now shapes column shape }
+{
+    shape_column(reals, column, shape_span(words, shapes, shape))
+}
+
 // The latitudes of a shape's points.
 pub fn shape_lat<'a>(words: &[u32], reals: &'a [f64], c: Course, shape: usize) -> &'a [f64]
     ensures { result.now ≡ shape_part words.now reals.now c.shapes c.points.lat shape }
 {
-    let shapes = c.shapes;
-    let lats = c.points.lat;
-    let span = shape_span(words, shapes, shape);
-    shape_column(reals, lats, span)
+    shape_part(words, reals, c.shapes, c.points.lat, shape)
 }
 
 // Their longitudes.
 pub fn shape_lon<'a>(words: &[u32], reals: &'a [f64], c: Course, shape: usize) -> &'a [f64]
     ensures { result.now ≡ shape_part words.now reals.now c.shapes c.points.lon shape }
 {
-    let shapes = c.shapes;
-    let lons = c.points.lon;
-    let span = shape_span(words, shapes, shape);
-    shape_column(reals, lons, span)
+    shape_part(words, reals, c.shapes, c.points.lon, shape)
 }

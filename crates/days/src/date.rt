@@ -6,23 +6,14 @@ ghost use Rattle.days.specs.Read.{read_date_of};
 
 use gregorian::{days_before_month, days_before_year, is_leap, month_days};
 
-// What eight digits say.
-#[derive(Clone, Copy)]
-pub enum ReadDate {
-    // the day's number
-    Day(i64),
-    // a year, month or day that the calendar does not have
-    NotADate,
-}
-
 // Reads n = yyyymmdd, from 00010101 to 99991231.
-pub fn read_date(n: u32) -> ReadDate
+pub fn read_date(n: u32) -> Option<i64>
     ensures { result ≡ read_date_of n }
 {
     if is_date(n) {
-        return ReadDate::Day(day_of(n));
+        return Some(day_of(n));
     }
-    ReadDate::NotADate
+    None
 }
 
 // A year from 1 to 9999, a month from 1 to 12, and a day of that month.

@@ -6,4 +6,4 @@
 
 mod date; // a date's digits as a day number
 
-pub use date::{ReadDate, day_of, is_date, ordinal_of, read_date};
+pub use date::{day_of, is_date, ordinal_of, read_date};

@@ -47,9 +47,7 @@ fn nearer(near: Nearest, a: f64, next: usize, left: usize) -> Nearest
             return Nearest {
                 best: d,
                 limit: far(most, left),
-                from: near.from,
-                upto: near.upto,
-                mark: near.mark,
+                ..near
             };
         }
         return Nearest {
@@ -71,18 +69,14 @@ pub fn sweep(lat: &[f64], lon: &[f64], stop: Point, at: usize) -> Nearest
     let n = vertices(lat, lon);
     let c = cos(radians(stop.lat));
     let mut near = Nearest {
-        best: 1.0 / 0.0,
-        limit: 1.0 / 0.0,
+        best: f64::INFINITY,
+        limit: f64::INFINITY,
         from: at,
         upto: at,
-        mark: 1.0 / 0.0,
+        mark: f64::INFINITY,
     };
-    let mut k = at;
-    while k < n {
-        let a = aside(lat, lon, stop, c, k);
-        k += 1;
-        let left = n - k;
-        near = nearer(near, a, k, left);
+    for k in at..n {
+        near = nearer(near, aside(lat, lon, stop, c, k), k + 1, n - k - 1);
     }
     near
 }

@@ -6,7 +6,7 @@ use mathlib.Core.List.{List}
 use lib.ListN.{length}
 use Rattle.tables.specs.Pools.{Pools}
 use Rattle.tables.specs.Bounds.{chart_bounds}
-use Rattle.refusals.specs.Refuse.{refusal_of}
+use Rattle.verdicts.specs.Refuse.{refusal_of}
 use Rattle.tables.specs.declared.lent.Tables.{Tables}
 use Rattle.checks.specs.Operations.{estimate_causes}
 use Rattle.calls.specs.Calls.{reported_of, call_rows}

@@ -1,9 +1,9 @@
 -- The estimate as document 01 publishes it: the first refusal that applies, its number alone, or the outcome. Definitions only.
-use Rattle.measure.specs.Answer.{Answer}
+use Rattle.refusals.specs.Answer.{Answer}
 use Rattle.answers.specs.Answers.{unless_refused}
 use Rattle.tables.specs.Pools.{Pools}
 use Rattle.tables.specs.Bounds.{chart_bounds}
-use Rattle.refusals.specs.Refuse.{refusal_of}
+use Rattle.verdicts.specs.Refuse.{refusal_of}
 use Rattle.tables.specs.declared.lent.Tables.{Tables}
 use Rattle.checks.specs.Operations.{estimate_causes}
 use Rattle.sailing_rows.specs.Rows.{clock_of}

@@ -2,7 +2,7 @@
 ghost use Rattle.std.specs.Prelude.{◌≡◌};
 ghost use Rattle.tables.specs.Pools.{pools};
 ghost use Rattle.tables.specs.Bounds.{chart_bounds};
-ghost use Rattle.refusals.specs.Refuse.{refusal_of};
+ghost use Rattle.verdicts.specs.Refuse.{refusal_of};
 ghost use Rattle.checks.specs.Operations.{estimate_causes};
 ghost use Rattle.calls.specs.Calls.{reported_of, call_rows, call_stops};
 ghost use Rattle.sailing_rows.specs.Rows.{clock_of};
@@ -15,8 +15,9 @@ use calls::collect;
 use checks::check_estimate;
 use estimate_answers::{Estimated, answered, refused};
 use plans::{at_turn, pin, reported};
+use refusals::number_or_zero;
 use sailing_rows::{clock, is_cancelled};
-use tables::{Bounds, Tables};
+use tables::{Bounds, Lent, Tables};
 use update_times::{fill_arrivals, fill_departures};
 use voyages::Outcome;
 
@@ -103,7 +104,14 @@ pub fn estimate(
 ) -> Estimated
     ensures { estimate_answer result ≡ estimate_of (pools bytes.now words.now times.now reals.now dists.now) t }
 {
-    let refusal = check_estimate(bytes, words, times, reals, dists, Bounds::chart(), t);
+    let lent = Lent {
+        bytes,
+        words,
+        times,
+        reals,
+        dists,
+    };
+    let refusal = number_or_zero(&check_estimate(&lent, Bounds::chart(), t));
     if refusal != 0 {
         return refused(refusal);
     }

@@ -1,5 +1,5 @@
 -- What an estimate answers, in document 01's terms: a refusal's number alone, or the outcome. Definitions only.
-use Rattle.measure.specs.Answer.{Answer, refused, given}
+use Rattle.refusals.specs.Answer.{Answer, refused, given}
 use Rattle.voyages.specs.declared.record.Outcome.{Outcome}
 use Rattle.voyages.specs.declared.record.Outcome.TheVariants.{At as Outcome·at, Silence as Outcome·silence}
 use Rattle.estimate_answers.specs.declared.answer.Estimated.{Estimated}

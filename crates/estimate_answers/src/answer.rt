@@ -1,6 +1,6 @@
 // The answer, of an outcome and of a refusal.
 ghost use Rattle.std.specs.Prelude.{◌≡◌};
-ghost use Rattle.measure.specs.Answer.{refused, given};
+ghost use Rattle.refusals.specs.Answer.{refused, given};
 ghost use Rattle.estimate_answers.specs.Answers.{estimate_answer};
 
 use legs::Place;

@@ -1,4 +1,5 @@
 -- What an estimate may take for granted of the updates, the calls and the sailing where nothing is refused. Assumes nothing.
+use Rattle.std.specs.Prelude.{Option, Some, None}
 use Prim.Native.Nat.{ℕ, zero, suc, ◌<◌, ◌≤◌}
 use native.Mathlib.Omega.{arith}
 use mathlib.Core.Path.{◌≡◌, refl}
@@ -11,10 +12,11 @@ use lib.Signed.{◌≤ℤ◌}
 use Rattle.ids.proofs.ByteOrder.{clash}
 use Rattle.tables.specs.Pools.{Pools}
 use Rattle.tables.specs.Bounds.{chart_bounds}
-use Rattle.refusals.specs.Refuse.{always, where_set, refusal_of}
+use Rattle.verdicts.specs.Refuse.{refusal_of}
+use Rattle.tables.specs.Marks.{always, where_set}
 use Rattle.tables.specs.declared.lent.Tables.{Tables}
-use Rattle.refusals.proofs.Facts.{Sized, all_count, counted}
-use Rattle.refusals.proofs.Passed.{clear_drop}
+use Rattle.verdicts.proofs.Facts.{Sized, all_count, counted}
+use Rattle.verdicts.proofs.Passed.{clear_drop}
 use Rattle.lookup_rules.proofs.Parts.{row_ids_good}
 use Rattle.update_rules.specs.Parts.{updates_causes, arrivals_causes, update_departures_causes, sailing_causes}
 use Rattle.update_rules.proofs.Parts.{update_stops, arrivals_between, update_departures_between, sailing_feed, now_between, offset_between}
@@ -30,8 +32,6 @@ use Rattle.calls.specs.Calls.{Ready as CallsReady}
 use Rattle.update_rows.specs.Updates.{is_set, is_timed, moment_at, moment_or}
 use Rattle.update_times.specs.Times.{arrival_of, departure_of}
 use Rattle.first_departures.specs.Firsts.{least_of, first_below, first_departure}
-use Rattle.first_departures.specs.declared.first.Moment.{Moment}
-use Rattle.first_departures.specs.declared.first.Moment.TheVariants.{At, Nothing}
 use Rattle.calls.proofs.Calls.{stops_count, call_row, call_found, call_timed}
 use Rattle.sailing_rows.specs.Rows.{clock_of, offset_of}
 use Rattle.sailings.specs.Sailing.{local_at, InTime}
@@ -51,13 +51,13 @@ map_by f most (x ∷ xs) h zero = h 0 (omega arith)
 map_by f most (x ∷ xs) h (suc i) = map_by f most xs (λ j l. h (suc j) (omega arith)) i
 
 -- a moment, if there is one, is by then
-abbrev By : ℕ → Moment → Type 0
-By most (At x) = x ≤ most
-By most Nothing = Unit {0}
+abbrev By : ℕ → Option ℕ → Type 0
+By most (Some x) = x ≤ most
+By most None = Unit {0}
 
-least_by : (most : ℕ) (m : Moment) (x : ℕ) → By most m → x ≤ most → By most (least_of m x)
-least_by most (At a) x h l = omega arith
-least_by most Nothing x h l = l
+least_by : (most : ℕ) (m : Option ℕ) (x : ℕ) → By most m → x ≤ most → By most (least_of m x)
+least_by most (Some a) x h l = omega arith
+least_by most None x h l = l
 
 module _ (p : Pools) (t : Tables) (e : refusal_of p (estimate_causes chart_bounds t) ≡ 0) where
   held : Estimate p chart_bounds t
@@ -147,14 +147,14 @@ module _ (p : Pools) (t : Tables) (e : refusal_of p (estimate_causes chart_bound
   first_departure_by = first_by t.updates.sequence.n (omega arith)
 
   -- and the first departure of all, where there is one
-  pub first_bound : (x : ℕ) → first_departure p.bytes t.updates p.times ≡ At x → x ≤ 4102444799
+  pub first_bound : (x : ℕ) → first_departure p.bytes t.updates p.times ≡ Some x → x ≤ 4102444799
   first_bound x f = rw f at first_departure_by
 
   pub first_in_time : InTime (first_departure p.bytes t.updates p.times)
   first_in_time = go (first_departure p.bytes t.updates p.times) first_departure_by where
-    go : (m : Moment) → By 4102444799 m → InTime m
-    go (At x) h = omega arith
-    go Nothing h = tt
+    go : (m : Option ℕ) → By 4102444799 m → InTime m
+    go (Some x) h = omega arith
+    go None h = tt
 
   -- the offset is one of document 01
   pub offset_bounds : (negsuc 50399 ≤ℤ offset_of p.times t.sailing) × (offset_of p.times t.sailing ≤ℤ pos 50400)
@@ -165,6 +165,6 @@ module _ (p : Pools) (t : Tables) (e : refusal_of p (estimate_causes chart_bound
   -- the first departure in local time is in reach of the calendar
   pub first_in_reach : InReach (local_at (first_departure p.bytes t.updates p.times) (offset_of p.times t.sailing))
   first_in_reach = go (first_departure p.bytes t.updates p.times) first_departure_by where
-    go : (m : Moment) → By 4102444799 m → InReach (local_at m (offset_of p.times t.sailing))
-    go (At x) h = in_reach (pos x) (offset_of p.times t.sailing) (le→leb 0 x (omega arith)) (le→leb x 4102444799 h) offset_bounds.0.le offset_bounds.1.le
-    go Nothing h = omega arith
+    go : (m : Option ℕ) → By 4102444799 m → InReach (local_at m (offset_of p.times t.sailing))
+    go (Some x) h = in_reach (pos x) (offset_of p.times t.sailing) (le→leb 0 x (omega arith)) (le→leb x 4102444799 h) offset_bounds.0.le offset_bounds.1.le
+    go None h = omega arith

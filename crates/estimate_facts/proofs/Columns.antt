@@ -11,12 +11,12 @@ use Rattle.ids.specs.Pool.{cell_of, id_of}
 use Rattle.ids.specs.declared.pool.IdColumn.{IdColumn}
 use Rattle.ids.specs.declared.pool.Span.{Span}
 use Rattle.tables.specs.Pools.{Pools}
-use Rattle.refusals.specs.Refuse.{always, where_set}
+use Rattle.tables.specs.Marks.{always, where_set}
 use Rattle.tables.specs.declared.bounds.Bounds.{Bounds}
 use Rattle.tables.specs.declared.mark.Mark.{Mark}
 use Rattle.tables.specs.declared.lent.IdRows.{IdRows}
-use Rattle.refusals.proofs.Facts.{Sized, Counts, Below, Between, RangesWithin, IdsHold, all_count, counted, part_at}
-use Rattle.refusals.proofs.Passed.{Clear, clear_drop}
+use Rattle.verdicts.proofs.Facts.{Sized, Counts, Below, Between, RangesWithin, IdsHold, all_count, counted, part_at}
+use Rattle.verdicts.proofs.Passed.{Clear, clear_drop}
 use Rattle.lookup_rules.specs.Parts.{id_rows_causes}
 use Rattle.lookup_rules.proofs.Parts.{row_ids, rows_below}
 use Rattle.timetable.proofs.Holds.{flag_counts}

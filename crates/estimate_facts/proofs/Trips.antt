@@ -1,4 +1,5 @@
 -- What an estimate may take for granted of the trips that are found, their rows and lines, and the stops of calls, where nothing is refused. Assumes nothing.
+use Rattle.std.specs.Prelude.{Some}
 use Prim.Native.Nat.{ℕ, ◌+◌, ◌<◌, ◌≤◌}
 use native.Mathlib.Omega.{arith}
 use mathlib.Core.Path.{◌≡◌, refl}
@@ -8,15 +9,15 @@ use lib.Dec.{eqb}
 use lib.Ieee.{Float}
 use lib.ListN.{drop, get_or, length, length-take}
 use Rattle.ids.specs.Pool.{cell_of}
-use Rattle.ids.specs.declared.lookup.Found.TheVariants.{At}
 use Rattle.ids.specs.declared.pool.Span.{Span}
 use Rattle.columns.specs.Rows.{bit_of}
 use Rattle.tables.specs.Pools.{Pools}
 use Rattle.tables.specs.Bounds.{chart_bounds}
-use Rattle.refusals.specs.Refuse.{always, where_set, refusal_of}
+use Rattle.verdicts.specs.Refuse.{refusal_of}
+use Rattle.tables.specs.Marks.{always, where_set}
 use Rattle.tables.specs.declared.lent.Tables.{Tables}
-use Rattle.refusals.proofs.Facts.{all_count, counted}
-use Rattle.refusals.proofs.Passed.{clear_drop}
+use Rattle.verdicts.proofs.Facts.{all_count, counted}
+use Rattle.verdicts.proofs.Passed.{clear_drop}
 use Rattle.trip_rules.specs.Parts.{trips_causes}
 use Rattle.trip_rules.proofs.Parts.{trip_rows_within}
 use Rattle.schedule_rules.specs.Parts.{calls_causes}
@@ -64,11 +65,11 @@ module _ (p : Pools) (t : Tables) (e : refusal_of p (estimate_causes chart_bound
       (line_trips_below p chart_bounds t.lines t.trips.first.n h) k l (all_count p always refl k)
 
   -- so the trip that the sailing stands for is one, and the trip whose id is a key
-  pub sailing_trip_is : (k : ℕ) → sailing_trip p.bytes p.words p.times t ≡ At k → IsTrip k
+  pub sailing_trip_is : (k : ℕ) → sailing_trip p.bytes p.words p.times t ≡ Some k → IsTrip k
   unfolding sailing_trip trip_from
   sailing_trip_is k f = match_holds p.bytes p.words IsTrip (named_of t) (plan_of t) id_trip line_trip _ _ _ _ _ k f
 
-  pub key_trip_is : (key : List ℕ) (k : ℕ) → trip_of p.bytes p.words t.tripkeys key ≡ At k → IsTrip k
+  pub key_trip_is : (key : List ℕ) (k : ℕ) → trip_of p.bytes p.words t.tripkeys key ≡ Some k → IsTrip k
   key_trip_is key k f = id_holds p.bytes p.words IsTrip t.tripkeys id_trip key k f
 
   -- its rows are rows of the stop times, of which there are no more than a million

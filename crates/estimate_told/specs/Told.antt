@@ -1,7 +1,7 @@
 -- An estimate's answer as numbers, for C. Definitions only.
 use Rattle.std.specs.Prelude.{ℕ, cond}
 use Rattle.floats.specs.Number.{nought}
-use Rattle.measure.specs.Answer.{Answer, refused, given}
+use Rattle.refusals.specs.Answer.{Answer, refused, given}
 use Rattle.ways.specs.declared.way.Way.{Way}
 use Rattle.ways.specs.declared.way.Way.TheVariants.{With, Against}
 use Rattle.paths.specs.declared.path.Line.{Line}

@@ -1,5 +1,5 @@
 // An estimate's answer as numbers.
-ghost use Rattle.std.specs.Prelude.{cond, ◌≡◌};
+ghost use Rattle.std.specs.Prelude.{◌≡◌};
 ghost use Rattle.estimate_answers.specs.Answers.{estimate_answer};
 ghost use Rattle.estimate_told.specs.Told.{status_number, line_number, way_number, place_told, estimate_told, unanswered, told_of};
 
@@ -24,6 +24,16 @@ pub struct PlaceTold {
     pub way: u32,
 }
 
+// What is told of a place where there is none, and of the numbers that a place does not have.
+const NO_PLACE: PlaceTold = PlaceTold {
+    fraction: 0.0,
+    vertex: 0,
+    kind: 0,
+    number: 0,
+    line: 0,
+    way: 0,
+};
+
 // `refusal`: document 01's number, or 0. `answered`: 1 with an estimate, 0 in silence and where it is refused. Each
 // other number is 0 without an estimate. `status`: 1 stopped at, 2 incoming at, 3 on the shape, 4 on the stop
 // chain, 5 in transit to. `bears`: 1 where there is a bearing.
@@ -40,15 +50,6 @@ pub struct Told {
     pub answered: u32,
     pub refusal: u32,
     pub place: PlaceTold,
-}
-
-fn flag(set: bool) -> u32
-    ensures { result ≡ cond set 1 0 }
-{
-    if set {
-        return 1;
-    }
-    0
 }
 
 fn status_number(status: Status) -> u32
@@ -87,28 +88,19 @@ fn place_told(place: Place) -> PlaceTold
 {
     match place {
         Place::Call(k) => PlaceTold {
-            fraction: 0.0,
-            vertex: 0,
             kind: 1,
             number: k,
-            line: 0,
-            way: 0,
+            ..NO_PLACE
         },
         Place::Start(k) => PlaceTold {
-            fraction: 0.0,
-            vertex: 0,
             kind: 2,
             number: k,
-            line: 0,
-            way: 0,
+            ..NO_PLACE
         },
         Place::End(k) => PlaceTold {
-            fraction: 0.0,
-            vertex: 0,
             kind: 3,
             number: k,
-            line: 0,
-            way: 0,
+            ..NO_PLACE
         },
         Place::Stretch(k, line, way, vertex, t) => PlaceTold {
             fraction: t,
@@ -119,12 +111,11 @@ fn place_told(place: Place) -> PlaceTold
             way: way_number(way),
         },
         Place::NoStretch(k, line, way) => PlaceTold {
-            fraction: 0.0,
-            vertex: 0,
             kind: 5,
             number: k,
             line: line_number(line),
             way: way_number(way),
+            ..NO_PLACE
         },
     }
 }
@@ -133,15 +124,14 @@ fn place_told(place: Place) -> PlaceTold
 fn estimate_told(e: Estimate, place: Place) -> Told
     ensures { result ≡ estimate_told e place }
 {
-    let status = e.status;
     Told {
         lat: e.lat,
         lon: e.lon,
         bearing: e.bearing,
         stop: e.stop as u64,
         sequence: e.sequence,
-        status: status_number(status),
-        bears: flag(e.bears),
+        status: status_number(e.status),
+        bears: u32::from(e.bears),
         answered: 1,
         refusal: 0,
         place: place_told(place),
@@ -152,14 +142,6 @@ fn estimate_told(e: Estimate, place: Place) -> Told
 fn unanswered(refusal: u32) -> Told
     ensures { result ≡ unanswered refusal }
 {
-    let place = PlaceTold {
-        fraction: 0.0,
-        vertex: 0,
-        kind: 0,
-        number: 0,
-        line: 0,
-        way: 0,
-    };
     Told {
         lat: 0.0,
         lon: 0.0,
@@ -170,7 +152,7 @@ fn unanswered(refusal: u32) -> Told
         bears: 0,
         answered: 0,
         refusal,
-        place,
+        place: NO_PLACE,
     }
 }
 

@@ -1,60 +1,46 @@
 // The Board's line: the estimate, silence or a refusal.
-use case_tables::{layout, limits};
+use case_tables::{Pools, layout};
 use estimate_answers::Estimated;
+use float_bits::bits_of_f64;
 use paths::Status;
 use std::io;
 use voyages::Estimate;
 
 // A status, as the Rust names it.
-fn status(out: &impl Print, s: Status) -> io::Result<()> {
-    match s {
-        Status::StoppedAt => out.write_all(b" ESTIMATED_STOPPED_AT "),
-        Status::IncomingAt => out.write_all(b" ESTIMATED_INCOMING_AT "),
-        Status::OnShape => out.write_all(b" ESTIMATED_ON_SHAPE "),
-        Status::OnStopChain => out.write_all(b" ESTIMATED_ON_STOP_CHAIN "),
-        Status::InTransitTo => out.write_all(b" ESTIMATED_IN_TRANSIT_TO "),
+fn status(status: Status) -> &'static str {
+    match status {
+        Status::StoppedAt => "ESTIMATED_STOPPED_AT",
+        Status::IncomingAt => "ESTIMATED_INCOMING_AT",
+        Status::OnShape => "ESTIMATED_ON_SHAPE",
+        Status::OnStopChain => "ESTIMATED_ON_STOP_CHAIN",
+        Status::InTransitTo => "ESTIMATED_IN_TRANSIT_TO",
     }
 }
 
-// The 16 digits of a float's bits.
-fn double(out: &impl Print, x: f64) -> io::Result<()> {
-    print!(out; "{:016x}", float_bits::bits_of_f64(x))
-}
-
-fn bearing(out: &impl Print, e: Estimate) -> io::Result<()> {
+fn line(out: &impl Print, pools: &Pools, e: Estimate) -> io::Result<()> {
+    let own = layout::STOP_OWN.column(pools.held.stops);
+    let status = status(e.status);
+    let lat = bits_of_f64(e.lat);
+    let lon = bits_of_f64(e.lon);
+    print!(out; "(at {} ", e.sequence)?;
+    case_answers::print_id(out, ids::id(pools.bytes, pools.words, own, e.stop))?;
+    print!(out; " {status} {lat:016x} {lon:016x} ")?;
     if e.bears {
-        return double(out, e.bearing);
+        println!(out; "{:016x})", bits_of_f64(e.bearing))
+    } else {
+        println!(out; "-)")
     }
-    out.write_all(b"-")
-}
-
-fn line(out: &impl Print, bytes: &[u8], words: &[u32], e: Estimate) -> io::Result<()> {
-    let stops = case_tables::count(words, layout::HELD_STOPS);
-    let own = case_tables::id_column(layout::STOP_OWN, limits::STOPS, stops);
-    let at = e.status;
-    out.write_all(b"(at ")?;
-    print!(out; "{}", e.sequence)?;
-    out.write_all(b" ")?;
-    case_answers::print_id(out, ids::id(bytes, words, own, e.stop))?;
-    status(out, at)?;
-    double(out, e.lat)?;
-    out.write_all(b" ")?;
-    double(out, e.lon)?;
-    out.write_all(b" ")?;
-    bearing(out, e)?;
-    out.write_all(b")\n")
 }
 
 // Writes the line of an answer; the pools hold the id of its stop.
 pub fn print_board(
     out: &impl Print,
     err: &impl Print,
-    bytes: &[u8],
-    words: &[u32],
+    pools: &Pools,
     answer: Estimated,
 ) -> io::Result<()> {
     match answer {
-        Estimated::At(e, _) => line(out, bytes, words, e),
+        Estimated::At(e, _) => line(out, pools, e),
         Estimated::Silence => case_answers::print_none(out),
         Estimated::Refused(n) => case_answers::print_refusal(out, err, n),
     }

@@ -2,7 +2,7 @@
 #![tactic(auto)]
 
 ghost use Rattle.std.specs.Prelude.{◌≡◌};
-ghost use Rattle.measure.specs.Answer.{number_of};
+ghost use Rattle.refusals.specs.Answer.{number_of};
 ghost use Rattle.tables.specs.Pools.{pools};
 ghost use Rattle.one_trip.specs.One.{one_of};
 ghost use Rattle.trip_backfill.specs.Answers.{filled_of, filled_dists, filled_marks};

@@ -2,10 +2,10 @@
 #![tactic(auto)]
 
 ghost use Rattle.std.specs.Prelude.{◌≡◌};
-ghost use Rattle.measure.specs.Answer.{number_of, value_or};
+ghost use Rattle.refusals.specs.Answer.{number_of, value_or};
 ghost use Rattle.tables.specs.Pools.{pools};
 ghost use Rattle.tables.specs.Bounds.{chart_bounds};
-ghost use Rattle.refusals.specs.Refuse.{refusal_of};
+ghost use Rattle.verdicts.specs.Refuse.{refusal_of};
 ghost use Rattle.geometry_checks.specs.Operations.{leg_causes};
 ghost use Rattle.point_columns.specs.Answers.{drawn_answer, lat_after, lon_after};
 ghost use Rattle.leg_drawing.specs.Trip.{asked_points};

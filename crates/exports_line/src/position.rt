@@ -1,5 +1,5 @@
 // The position at a fraction.
-ghost use Rattle.std.specs.Prelude.{◌≡◌};
+ghost use Rattle.std.specs.Prelude.{◌≡◌, ◌↔◌, ◌||◌, eqb, ltb, IsNone, IsTrue, IfSome};
 ghost use Rattle.tables.specs.Pools.{pools};
 ghost use Rattle.exports_line.specs.Asked.{question_of, interpolation_told};
 
@@ -9,20 +9,18 @@ use line_questions::Question;
 use line_told::{PositionTold, no_position, tell_position};
 use tables::{Along, Points};
 
-// 1 between two distances in metres, 2 between two of a feed, 3 along the whole line, 4 between two ends.
-fn question_of(question: u32) -> Question
-    ensures { result ≡ question_of question }
+// 1 between two distances in metres, 2 between two of a feed, 3 along the whole line, 4 between two ends; any other number is no question's.
+fn question_of(question: u32) -> Option<Question>
+    ensures none { IsNone result ↔ IsTrue (eqb question 0 || ltb 4 question) }
+    ensures some { IfSome result (λ q. q ≡ question_of question) }
 {
-    if question == 1 {
-        return Question::ByDistance;
+    match question {
+        1 => Some(Question::ByDistance),
+        2 => Some(Question::ByFeedDistance),
+        3 => Some(Question::AlongVertices),
+        4 => Some(Question::Polyline),
+        _ => None,
     }
-    if question == 2 {
-        return Question::ByFeedDistance;
-    }
-    if question == 3 {
-        return Question::AlongVertices;
-    }
-    Question::Polyline
 }
 
 // A question that is none of the four gets 1.
@@ -41,18 +39,14 @@ pub extern "C" fn zebumorn_interpolate(
 ) -> PositionTold
     ensures { result ≡ interpolation_told (pools bytes.now words.now times.now reals.now dists.now) question (record { line = line; ends = ends; dists = distances; numbers = numbers }) }
 {
-    if question == 0 {
+    let Some(asked) = question_of(question) else {
         return no_position(1);
-    }
-    if 4 < question {
-        return no_position(1);
-    }
+    };
     let a = Along {
         line,
         ends,
         dists: distances,
         numbers,
     };
-    let asked = question_of(question);
     tell_position(interpolate(bytes, words, times, reals, dists, asked, a))
 }

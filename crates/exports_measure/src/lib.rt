@@ -2,24 +2,11 @@
 #![tactic(auto)]
 
 ghost use Rattle.std.specs.Prelude.{◌≡◌};
-ghost use Rattle.measure.specs.Answer.{answer_of, number_of, value_or};
+ghost use Rattle.refusals.specs.Answer.{number_of, value_or};
 ghost use Rattle.measure.specs.Measure.{measured, bearing_of};
 ghost use Rattle.sphere_lengths.specs.Length.{haversine_of};
 
-use measure::Measured;
-
-// 0 and the value in out, or the refusal's number with out as it was.
-fn told(m: Measured, out: &mut f64) -> u32
-    ensures { (result ≡ number_of (answer_of m)) × (out.new ≡ value_or out.old (answer_of m)) }
-{
-    match m {
-        Measured::Value(x) => {
-            *out = x;
-            0
-        }
-        Measured::OffGlobe => 3,
-    }
-}
+use refusals::told;
 
 #[unsafe(no_mangle)]
 pub extern "C" fn zebumorn_haversine_m(

@@ -1,6 +1,6 @@
 // The trip of a journey, and whether a service runs.
 ghost use Rattle.std.specs.Prelude.{◌≡◌};
-ghost use Rattle.measure.specs.Answer.{number_of};
+ghost use Rattle.refusals.specs.Answer.{number_of};
 ghost use Rattle.tables.specs.Pools.{pools};
 ghost use Rattle.timetable.specs.Answers.{matched_of};
 ghost use Rattle.service_days.specs.Services.{running_of};

@@ -5,5 +5,4 @@
 mod put; // put.rt: numbers into pools
 mod script; // script.rt: a script's words, and what those read so far have set
 
-pub use put::{ids, more, one};
-pub use script::Script;
+pub use script::{Fault, Place, Script, digit};

@@ -1,146 +1,72 @@
 // Numbers into pools.
-use crate::script::Script;
-use std::io;
+use crate::script::{Fault, Place, Script};
+use worlds::{Pools, put};
 
-// Puts a number at the next place, if the pool has that place and the number is small enough.
-pub fn one(
-    err: &impl Print,
-    bytes: &mut [u8],
-    words: &mut [u32],
-    times: &mut [i64],
-    reals: &mut [f64],
-    dists: &mut [f32],
-    read: Script,
-) -> io::Result<Script> {
-    let n = read.number;
-    if put(bytes, words, times, reals, dists, read, n) {
-        return Ok(read.gone_on(n));
+impl Place {
+    /// Writes a number, a negative one with `minus`, and says whether the pool has this place and the number is small enough. A float is put by its bits.
+    pub fn put(self, pools: &mut Pools<'_>, number: u64, minus: bool) -> bool {
+        let at = self.at;
+        match self.pool {
+            b'b' if number <= 0xff => put(pools.bytes, at, number as u8),
+            b'w' if number <= 0xffff_ffff => put(pools.words, at, number as u32),
+            b't' if number <= 0x7fff_ffff_ffff_ffff => {
+                let t = number as i64;
+                put(pools.times, at, if minus { t.wrapping_neg() } else { t })
+            }
+            b'r' => put(pools.reals, at, float_bits::f64_of(number)),
+            b'd' if number <= 0xffff_ffff => {
+                put(pools.dists, at, float_bits::f32_of(number as u32))
+            }
+            _ => false,
+        }
     }
-    read.fails(err, b"a number or a place too large")
 }
 
-// As many numbers more as the script's word says, each the last one plus the step.
-pub fn more(err: &impl Print, words: &mut [u32], read: Script) -> io::Result<Script> {
-    if read.pool != b'w' {
-        return read.fails(err, b"not among the words");
-    }
-    let mut r = read;
-    let mut left = read.number;
-    while 0 < left {
-        let n = std::num::wrapping_add_u64(r.last, r.step);
-        if !word(words, r.at, n) {
-            return r.fails(err, b"a number or a place too large");
+impl Script {
+    /// Puts the word's number at the next place.
+    pub fn put_one(&mut self, pools: &mut Pools<'_>) -> Result<(), Fault> {
+        let n = self.number;
+        if !self.place.put(pools, n, self.letter == b'-') {
+            return Err(Fault::NoRoom);
         }
-        r = r.gone_on(n);
-        left -= 1;
+        self.go_on(n);
+        Ok(())
     }
-    Ok(r)
-}
 
-// As many ids as the script's word says.
-pub fn ids(err: &impl Print, bytes: &mut [u8], read: Script) -> io::Result<Script> {
-    if read.pool != b'b' {
-        return read.fails(err, b"not among the bytes");
-    }
-    let mut k = 0;
-    let mut at = read.at;
-    while k < read.number {
-        if !id(bytes, at, k) {
-            return read.fails(err, b"too many ids");
+    /// As many numbers more as the word says, each the last one plus the step.
+    pub fn put_more(&mut self, pools: &mut Pools<'_>) -> Result<(), Fault> {
+        if self.place.pool != b'w' {
+            return Err(Fault::NotWords);
         }
-        at = std::num::wrapping_add_usize(at, 3);
-        k += 1;
+        for _ in 0..self.number {
+            let n = self.last.wrapping_add(self.step);
+            if !self.place.put(pools, n, false) {
+                return Err(Fault::NoRoom);
+            }
+            self.go_on(n);
+        }
+        Ok(())
     }
-    Ok(read)
+
+    /// As many ids as the word says.
+    pub fn put_ids(&self, pools: &mut Pools<'_>) -> Result<(), Fault> {
+        if self.place.pool != b'b' {
+            return Err(Fault::NotBytes);
+        }
+        let mut at = self.place.at;
+        for k in 0..self.number {
+            if !put_id(pools.bytes, at, k) {
+                return Err(Fault::TooManyIds);
+            }
+            at = at.wrapping_add(3);
+        }
+        Ok(())
+    }
 }
 
 // Id k: three digits in base 95, from a space on.
-fn id(pool: &mut [u8], at: usize, k: u64) -> bool {
-    if pool.len() <= at {
-        return false;
-    }
-    if pool.len() - at < 3 {
-        return false;
-    }
-    pool[at] = (32 + k / 9025 % 95) as u8;
-    pool[at + 1] = (32 + k / 95 % 95) as u8;
-    pool[at + 2] = (32 + k % 95) as u8;
-    true
-}
-
-fn put(
-    bytes: &mut [u8],
-    words: &mut [u32],
-    times: &mut [i64],
-    reals: &mut [f64],
-    dists: &mut [f32],
-    read: Script,
-    n: u64,
-) -> bool {
-    let pool = read.pool;
-    let at = read.at;
-    match pool {
-        b'b' => byte(bytes, at, n),
-        b'w' => word(words, at, n),
-        b't' => time(times, at, n, read.letter == b'-'),
-        b'r' => real(reals, at, n),
-        b'd' => dist(dists, at, n),
-        _ => false,
-    }
-}
-
-fn byte(pool: &mut [u8], at: usize, n: u64) -> bool {
-    if pool.len() <= at {
-        return false;
-    }
-    if 255 < n {
-        return false;
-    }
-    pool[at] = n as u8;
-    true
-}
-
-fn word(pool: &mut [u32], at: usize, n: u64) -> bool {
-    if pool.len() <= at {
-        return false;
-    }
-    if 0xffff_ffff < n {
-        return false;
-    }
-    pool[at] = n as u32;
-    true
-}
-
-fn time(pool: &mut [i64], at: usize, n: u64, minus: bool) -> bool {
-    if pool.len() <= at {
-        return false;
-    }
-    if 0x7fff_ffff_ffff_ffff < n {
-        return false;
-    }
-    if minus {
-        pool[at] = 0 - n as i64;
-        return true;
-    }
-    pool[at] = n as i64;
-    true
-}
-
-fn real(pool: &mut [f64], at: usize, n: u64) -> bool {
-    if pool.len() <= at {
-        return false;
-    }
-    pool[at] = float_bits::f64_of(n);
-    true
-}
-
-fn dist(pool: &mut [f32], at: usize, n: u64) -> bool {
-    if pool.len() <= at {
-        return false;
-    }
-    if 0xffff_ffff < n {
-        return false;
-    }
-    pool[at] = float_bits::f32_of(n as u32);
-    true
+fn put_id(bytes: &mut [u8], at: usize, k: u64) -> bool {
+    put(bytes, at, (32 + k / 9025 % 95) as u8)
+        && put(bytes, at.wrapping_add(1), (32 + k / 95 % 95) as u8)
+        && put(bytes, at.wrapping_add(2), (32 + k % 95) as u8)
 }

@@ -1,22 +1,51 @@
 // A script's words, and what those read so far have set.
-ghost use Rattle.std.specs.Prelude.{◌≤◌};
+ghost use Rattle.std.specs.Prelude.{◌<◌, IfSome};
 
 use std::io;
+use thiserror::Error;
+
+/// Why a script is read no further.
+#[derive(Debug, Drop, Error)]
+pub enum Fault {
+    #[error("a number too large")]
+    NumberTooLarge,
+    #[error("no digit")]
+    NoDigit,
+    #[error("a number or a place too large")]
+    NoRoom,
+    #[error("not among the words")]
+    NotWords,
+    #[error("not among the bytes")]
+    NotBytes,
+    #[error("too many ids")]
+    TooManyIds,
+    #[error("no such operation")]
+    NoOperation,
+    #[error("no such word")]
+    NoWord,
+    // no fault of the script: an answer could not be written
+    #[error("{0}")]
+    Io(#[from] io::Error),
+}
+
+/// Where the next number goes: a pool's letter, and a place in it.
+#[derive(Clone, Copy)]
+pub struct Place {
+    pub pool: u8,
+    pub at: usize,
+}
 
 #[derive(Clone, Copy)]
 pub struct Script {
     // the word that is being read: its letter, 0 before it, and its number so far
     pub letter: u8,
     pub number: u64,
-    // where the next number goes: a pool's letter, and a place in it
-    pub pool: u8,
-    pub at: usize,
+    pub place: Place,
     // the last number put, and the step to the next
     pub last: u64,
     pub step: u64,
-    // the line of the case, and whether it is wrong
+    // the line of the case
     pub line: u64,
-    pub wrong: bool,
 }
 
 impl Script {
@@ -24,96 +53,69 @@ impl Script {
         Script {
             letter: 0,
             number: 0,
-            pool: 0,
-            at: 0,
+            place: Place { pool: 0, at: 0 },
             last: 0,
             step: 0,
             line: 1,
-            wrong: false,
         }
     }
 
     // One byte more of a word.
-    pub fn spelled(mut self, err: &impl Print, b: u8) -> io::Result<Self> {
+    pub fn spell(&mut self, b: u8) -> Result<(), Fault> {
         if self.letter == 0 {
             self.letter = b;
-            return Ok(self);
+            return Ok(());
         }
-        let d = digit(b);
         if self.number >= 0x1000_0000_0000_0000 {
-            return self.fails(err, b"a number too large");
+            return Err(Fault::NumberTooLarge);
         }
-        if self.letter == b'x' {
-            if 15 < d {
-                return self.fails(err, b"no digit");
+        let base = if self.letter == b'x' { 16 } else { 10 };
+        match digit(b) {
+            Some(d) if d < base => {
+                self.number = self.number * base + d;
+                Ok(())
             }
-            self.number = self.number * 16 + d;
-            return Ok(self);
+            _ => Err(Fault::NoDigit),
         }
-        if 9 < d {
-            return self.fails(err, b"no digit");
-        }
-        self.number = self.number * 10 + d;
-        Ok(self)
     }
 
-    pub fn next_word(mut self) -> Self {
+    pub fn next_word(&mut self) {
         self.letter = 0;
         self.number = 0;
-        self
     }
 
-    pub fn next_line(mut self) -> Self {
-        self.line = std::num::wrapping_add_u64(self.line, 1);
-        self
+    pub fn next_line(&mut self) {
+        self.line = self.line.wrapping_add(1);
     }
 
-    pub fn placed(mut self) -> Self {
-        self.pool = self.letter;
-        self.at = self.number as usize;
+    // The word is a pool's letter and a place in it.
+    pub fn set_place(&mut self) {
+        self.place = Place {
+            pool: self.letter,
+            at: self.number as usize,
+        };
         self.step = 0;
-        self
     }
 
-    pub fn stepped(mut self) -> Self {
+    // The word is a step.
+    pub fn set_step(&mut self) {
         self.step = self.number;
-        self
     }
 
     // After a number was put.
-    pub fn gone_on(mut self, n: u64) -> Self {
+    pub(crate) fn go_on(&mut self, n: u64) {
         self.last = n;
-        self.at = std::num::wrapping_add_usize(self.at, 1);
-        self
-    }
-
-    // Says what is wrong, and where.
-    pub fn fails(mut self, err: &impl Print, what: &[u8]) -> io::Result<Self> {
-        err.write_all(b"line ")?;
-        print!(err; "{}", self.line)?;
-        err.write_all(b": ")?;
-        err.write_all(what)?;
-        err.write_all(b"\n")?;
-        self.wrong = true;
-        Ok(self)
+        self.place.at = self.place.at.wrapping_add(1);
     }
 }
 
-// A hexadecimal digit's value, or 16 where it is none.
-fn digit(b: u8) -> u64
-    ensures { result ≤ 16 }
+/// A hexadecimal digit's value.
+pub fn digit(b: u8) -> Option<u64>
+    ensures { IfSome result (λ d. d < 16) }
 {
-    if b < 48 {
-        return 16;
+    match b {
+        b'0'..=b'9' => Some((b - b'0') as u64),
+        b'a'..=b'f' => Some((b - b'a') as u64 + 10),
+        _ => None,
     }
-    if b < 58 {
-        return (b - 48) as u64;
-    }
-    if b < 97 {
-        return 16;
-    }
-    if b < 103 {
-        return (b - 87) as u64;
-    }
-    16
 }

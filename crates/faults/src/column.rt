@@ -7,26 +7,12 @@ ghost use Rattle.faults.specs.Fault.{no_date_at, nan_at};
 pub fn no_date(s: &[u32]) -> bool
     ensures { result ≡ some (no_date_at s.now) (length s.now) }
 {
-    let mut k = 0;
-    while k < s.len() {
-        if !days::is_date(s[k]) {
-            return true;
-        }
-        k += 1;
-    }
-    false
+    s.iter().any(|number| !days::is_date(*number))
 }
 
 // Whether some float is NaN.
 pub fn not_a_number(s: &[f64]) -> bool
     ensures { result ≡ some (nan_at s.now) (length s.now) }
 {
-    let mut k = 0;
-    while k < s.len() {
-        if ieee::is_nan(s[k]) {
-            return true;
-        }
-        k += 1;
-    }
-    false
+    s.iter().any(|float| float.is_nan())
 }

@@ -1,4 +1,6 @@
 -- Records laid out in columns, and what the core makes of them. Assumes nothing.
+use Rattle.std.specs.Prelude.{Option}
+use Rattle.lengths.specs.declared.line.Point.{Point}
 use Prim.Native.Nat.{ℕ, zero, suc, ◌+◌, ◌<◌, ◌≤◌}
 use native.Mathlib.Omega.{arith}
 use mathlib.Core.Path.{◌≡◌, refl, ap, ◌∙◌}
@@ -7,7 +9,6 @@ use lib.Ieee.{Float, nan}
 use lib.ListN.{length, length-append, length-drop, length-map, take, drop, get_or, get_or-append}
 use lib.Seq.{take_at, drop_at}
 use Rattle.lengths.specs.Line.{line_of}
-use Rattle.projection.specs.declared.cursor.Position.{Position}
 use Rattle.tables.specs.Pools.{part_of}
 use Rattle.trip_rows.specs.Rows.{stop_position, row_position}
 use Rattle.trip_vertices.specs.Vertices.{positions_from}
@@ -55,21 +56,21 @@ own_rows [] = refl
 own_rows (s ∷ rs) = ap (λ (l : List Distance). record { dist = s.dist; measured = flag_of s.measured } ∷ l) (own_rows rs)
 
 -- the positions of rows, from the first on
-positions_same : (p q : ℕ → Position) → ((j : ℕ) → p j ≡ q j) → (k n : ℕ) → positions_from p k n ≡ positions_from q k n
+positions_same : (p q : ℕ → Option Point) → ((j : ℕ) → p j ≡ q j) → (k n : ℕ) → positions_from p k n ≡ positions_from q k n
 unfolding positions_from
 positions_same p q h k zero = refl
 positions_same p q h k (suc n) = rw (h k, positions_same p q h (suc k) n)
 
-positions_shift : (p : ℕ → Position) (k n : ℕ) → positions_from p (suc k) n ≡ positions_from (λ (j : ℕ). p (suc j)) k n
+positions_shift : (p : ℕ → Option Point) (k n : ℕ) → positions_from p (suc k) n ≡ positions_from (λ (j : ℕ). p (suc j)) k n
 unfolding positions_from
 positions_shift p k zero = refl
-positions_shift p k (suc n) = ap (λ (l : List Position). p (suc k) ∷ l) (positions_shift p (suc k) n)
+positions_shift p k (suc n) = ap (λ (l : List (Option Point)). p (suc k) ∷ l) (positions_shift p (suc k) n)
 
-positions_of : (place : ℕ → Position) (rs : List StopTime) (others : List ℕ) → positions_from (λ (j : ℕ). place (get_or (map stop_of rs ++ others) j 0)) 0 (length rs) ≡ map (λ (s : StopTime). place s.stop) rs
+positions_of : (place : ℕ → Option Point) (rs : List StopTime) (others : List ℕ) → positions_from (λ (j : ℕ). place (get_or (map stop_of rs ++ others) j 0)) 0 (length rs) ≡ map (λ (s : StopTime). place s.stop) rs
 unfolding positions_from
 positions_of place [] others = refl
 positions_of place (s ∷ rs) others =
-    ap (λ (l : List Position). place s.stop ∷ l) (positions_shift (λ (j : ℕ). place (get_or (map stop_of (s ∷ rs) ++ others) j 0)) 0 (length rs) ∙ positions_of place rs others)
+    ap (λ (l : List (Option Point)). place s.stop ∷ l) (positions_shift (λ (j : ℕ). place (get_or (map stop_of (s ∷ rs) ++ others) j 0)) 0 (length rs) ∙ positions_of place rs others)
 
 -- a list changed row by row in two ways that agree on its rows
 each_same : {X : Type 0} {g h : ℕ → X → X} (xs : List X) → ((j : ℕ) (x : X) → j < length xs → g j x ≡ h j x) → each g xs ≡ each h xs

@@ -3,12 +3,13 @@ use Prim.Native.Nat.{ℕ, ◌≤◌}
 use mathlib.Core.Path.{◌≡◌, ◌∙◌}
 use mathlib.Core.List.{List, []}
 use lib.Ieee.{Float}
+use Rattle.std.specs.Prelude.{fold}
 use lib.ListN.{length}
 use borrow.Author.Tests.{eq-eqb, ne_eqb}
 use Rattle.tables.specs.Pools.{pools}
 use Rattle.tables.specs.Bounds.{chart_bounds}
-use Rattle.refusals.specs.Refuse.{refusal_of}
-use Rattle.record_faults.specs.Faults.{fold, start, step_of}
+use Rattle.verdicts.specs.Refuse.{refusal_of}
+use Rattle.record_faults.specs.Faults.{start, step_of}
 use Rattle.record_faults.specs.declared.Faults.{Faults}
 use Rattle.stop_record.specs.declared.StopTime.{StopTime}
 use Rattle.record_refusals.specs.Verdict.{lent_causes, verdict_of}

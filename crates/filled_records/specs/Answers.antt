@@ -1,13 +1,13 @@
 -- The operation: the first refusal that applies, or 0, and the four lists afterwards. Where there is a refusal all are as they were.
-use Rattle.std.specs.Prelude.{ℕ, cond, List, [], ◌++◌, map, eqb, Float, length, drop}
+use Rattle.std.specs.Prelude.{ℕ, cond, List, [], ◌++◌, map, fold, eqb, Float, length, drop}
 use Rattle.tables.specs.Pools.{pools}
 use Rattle.tables.specs.Bounds.{chart_bounds}
-use Rattle.refusals.specs.Refuse.{refusal_of}
+use Rattle.verdicts.specs.Refuse.{refusal_of}
 use Rattle.row_distances.specs.Rows.{dists_in, marks_in}
 use Rattle.records.specs.Rows.{each}
 use Rattle.records.specs.Records.{fill_row}
 use Rattle.stop_record.specs.declared.StopTime.{StopTime}
-use Rattle.record_faults.specs.Faults.{fold, start, step_of}
+use Rattle.record_faults.specs.Faults.{start, step_of}
 use Rattle.record_refusals.specs.Verdict.{lent_causes, verdict_of}
 use Rattle.filled_records.specs.Records.{record_filled}
 use Rattle.record_refusals.specs.declared.Lent.{Lent}

@@ -1,9 +1,8 @@
 -- Backfill of records, and of the columns that they are laid out in. Definitions only.
-use Rattle.std.specs.Prelude.{ℕ, List, ◌++◌, map, Float, length, take, drop}
+use Rattle.std.specs.Prelude.{ℕ, List, ◌++◌, map, Float, length, take, drop, Option}
 use Rattle.ids.specs.declared.pool.Span.{Span}
 use Rattle.lengths.specs.Line.{line_of}
 use Rattle.lengths.specs.declared.line.Point.{Point}
-use Rattle.projection.specs.declared.cursor.Position.{Position}
 use Rattle.tables.specs.Pools.{part_of}
 use Rattle.tables.specs.declared.lent.Stops.{Stops}
 use Rattle.tables.specs.declared.lent.StopTimes.{StopTimes}
@@ -22,7 +21,7 @@ unfoldable pub lent_line : List Float → Lent → List Point
 lent_line reals l = line_of (part_of reals l.line.lat) (part_of reals l.line.lon)
 
 -- where the stops of records are
-unfoldable pub record_stops : List ℕ → List Float → Stops → List StopTime → List Position
+unfoldable pub record_stops : List ℕ → List Float → Stops → List StopTime → List (Option Point)
 record_stops bytes reals stops rs = map (λ (s : StopTime). stop_position bytes reals stops s.stop) rs
 
 -- their distances

@@ -1,4 +1,5 @@
 -- A stop and its row: what is walked to, and what is written. Assumes nothing.
+use Rattle.std.specs.Prelude.{Option, Some, None}
 use Prim.Native.Nat.{ℕ, ◌<◌, ◌≤◌}
 use native.Mathlib.Omega.{arith}
 use mathlib.Core.Path.{◌≡◌}
@@ -9,8 +10,6 @@ use Rattle.running_lengths.specs.Length.{length_to}
 use Rattle.lengths.specs.declared.line.Point.{Point}
 use Rattle.near_vertex.specs.Forward.{start_of}
 use Rattle.projection.specs.Projection.{step_of}
-use Rattle.projection.specs.declared.cursor.Position.{Position}
-use Rattle.projection.specs.declared.cursor.Position.TheVariants.{Known, Missing}
 use Rattle.projection.specs.declared.cursor.Step.{Step}
 use Rattle.near_vertex.proofs.Range.{first_from, first_most}
 use Rattle.row_distances.specs.Rows.{filled_by}
@@ -34,12 +33,12 @@ module _ (line : List Point) (at : ℕ) (stop : Point) (h : at < length line) {s
   on_it = rw e (omega (arith, first_most line at stop))
 
 -- a stop and its row
-module _ (line : List Point) (unit : Unit) (at : ℕ) {stop : Position} (row : Distance) where
-  pub unplaced : stop ≡ Missing → {sum : Float} → sum ≡ length_to line at → ◌≡◌ {A = Walked} (record { at = at; sum = sum; row = row }) (walked_of line unit at stop row)
+module _ (line : List Point) (unit : Unit) (at : ℕ) {stop : Option Point} (row : Distance) where
+  pub unplaced : stop ≡ None → {sum : Float} → sum ≡ length_to line at → ◌≡◌ {A = Walked} (record { at = at; sum = sum; row = row }) (walked_of line unit at stop row)
   unfolding walked_of
   unplaced e q = rw (e, q)
 
-  pub placed : {point : Point} → stop ≡ Known point → {s : Step} → s ≡ step_of line (record { at = at }) point → {m : Float} → m ≡ length_to line s.vertex →
+  pub placed : {point : Point} → stop ≡ Some point → {s : Step} → s ≡ step_of line (record { at = at }) point → {m : Float} → m ≡ length_to line s.vertex →
       {after : Distance} → after ≡ filled_by unit m row → ◌≡◌ {A = Walked} (record { at = s.vertex; sum = m; row = after }) (walked_of line unit at stop row)
   unfolding walked_of step_of
   placed e q i f = rw (f, i, e, q)

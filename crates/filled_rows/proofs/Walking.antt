@@ -1,4 +1,5 @@
 -- The rows of a trip, filled one by one. Assumes nothing.
+use Rattle.std.specs.Prelude.{Option, Some, None}
 use Prim.Native.Nat.{ℕ, suc, ◌+◌, ◌-◌, ◌<◌, ◌≤◌}
 use native.Mathlib.Omega.{arith}
 use mathlib.Core.Path.{◌≡◌, refl, sym, ◌∙◌}
@@ -11,8 +12,6 @@ use Rattle.running_lengths.specs.Length.{length_to}
 use Rattle.lengths.specs.declared.line.Point.{Point}
 use Rattle.running_lengths.proofs.Running.{first_length}
 use Rattle.projection.specs.Projection.{projection_from, projection_of, step_of}
-use Rattle.projection.specs.declared.cursor.Position.{Position}
-use Rattle.projection.specs.declared.cursor.Position.TheVariants.{Known, Missing}
 use Rattle.near_vertex.proofs.Range.{first_most}
 use Rattle.trip_vertices.specs.Vertices.{positions_from}
 use Rattle.row_distances.specs.Rows.{rows_of, dists_in, marks_in}
@@ -23,16 +22,16 @@ use Rattle.filled_rows.specs.declared.walk.Walked.{Walked}
 use Rattle.row_distances.proofs.Columns.{rows_count, dists_back, marks_back, rows_set, rows_from}
 
 -- the cursor stays on the line, with the length to there
-pub walk_on : (line : List Point) (unit : Unit) (at : ℕ) (stop : Position) (row : Distance) → at < length line → (walked_of line unit at stop row).at < length line
+pub walk_on : (line : List Point) (unit : Unit) (at : ℕ) (stop : Option Point) (row : Distance) → at < length line → (walked_of line unit at stop row).at < length line
 unfolding walked_of step_of
-walk_on line unit at (Known p) row h = omega (arith, first_most line at p)
-walk_on line unit at Missing row h = h
+walk_on line unit at (Some p) row h = omega (arith, first_most line at p)
+walk_on line unit at None row h = h
 
-pub walk_sum : (line : List Point) (unit : Unit) (at : ℕ) (stop : Position) (row : Distance) → (walked_of line unit at stop row).sum ≡ length_to line (walked_of line unit at stop row).at
+pub walk_sum : (line : List Point) (unit : Unit) (at : ℕ) (stop : Option Point) (row : Distance) → (walked_of line unit at stop row).sum ≡ length_to line (walked_of line unit at stop row).at
 unfolding walked_of
 walk_sum line unit at stop row = refl
 
-module _ (line : List Point) (unit : Unit) (position : ℕ → Position) (first n : ℕ) (ds₀ : List Float) (ms₀ : List ℕ) where
+module _ (line : List Point) (unit : Unit) (position : ℕ → Option Point) (first n : ℕ) (ds₀ : List Float) (ms₀ : List ℕ) where
   -- the rows afterwards
   abbrev all : List Distance
   all = fill_all line unit (projection_of line (positions_from position first n)) (rows_of ds₀ ms₀)
@@ -67,7 +66,7 @@ module _ (line : List Point) (unit : Unit) (position : ℕ → Position) (first 
         let d : drop (k + 1) (set (rows_of ds ms) k w.row) ≡ drop (k + 1) (rows_of ds ms) = drop-set-lt (k + 1) (rows_of ds ms) k w.row (omega arith) in
         rw (d, e, i, rows_from ds ms k x (omega (arith, f.dists)) (omega (arith, f.marks)), j, l)
 
-    pub goes_on : k < n → (x : Float) → {stop : Position} → stop ≡ position (first + k) → {w : Walked} → w ≡ walked_of line unit at stop (record { dist = get_or ds k x; measured = get_or ms k 0 }) →
+    pub goes_on : k < n → (x : Float) → {stop : Option Point} → stop ≡ position (first + k) → {w : Walked} → w ≡ walked_of line unit at stop (record { dist = get_or ds k x; measured = get_or ms k 0 }) →
         {ds' : List Float} → ds' ≡ set ds k w.row.dist → {ms' : List ℕ} → ms' ≡ set ms k w.row.measured → Filled ds' ms' w.at w.sum (k + 1)
     goes_on h x {stop} s {w} e d m =
         let q : w ≡ walked_of line unit at (position (first + k)) (record { dist = get_or ds k x; measured = get_or ms k 0 }) = e ∙ rw s in

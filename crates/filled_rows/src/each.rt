@@ -34,11 +34,9 @@ pub fn fill(
     ensures measured_after { measured.new ≡ marks_in (fill_all (line_of lat.now lon.now) unit (projection_of (line_of lat.now lon.now) (positions_from (row_position bytes.now words.now reals.now stops calls) first n)) (rows_of dist.old measured.old)) }
 {
     let from = first as usize;
-    let rows = n as usize;
     let mut at = 0;
     let mut sum = 0.0;
-    let mut k = 0;
-    while k < rows {
+    for k in 0..n as usize {
         let row = Distance {
             dist: dist[k],
             measured: measured[k],
@@ -57,6 +55,5 @@ pub fn fill(
         measured[k] = after.measured;
         at = walked.at;
         sum = walked.sum;
-        k += 1;
     }
 }

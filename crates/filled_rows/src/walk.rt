@@ -4,8 +4,8 @@ ghost use Rattle.lengths.specs.Line.{line_of};
 ghost use Rattle.running_lengths.specs.Length.{length_to};
 ghost use Rattle.filled_rows.specs.Walk.{walked_of};
 
-use lengths::{metres, vertex};
-use projection::{Cursor, Position};
+use lengths::{Point, metres, vertex};
+use projection::Cursor;
 use row_distances::{Distance, Unit, filled};
 
 // The length along a line to a vertex, from that to an earlier one.
@@ -16,11 +16,8 @@ fn length_on(lat: &[f64], lon: &[f64], from: usize, sum: f64, to: usize) -> f64
     ensures { result ≡ length_to (line_of lat.now lon.now) to }
 {
     let mut m = sum;
-    let mut k = from;
-    while k < to {
-        let next = k + 1;
-        m = m + metres(vertex(lat, lon, k), vertex(lat, lon, next));
-        k = next;
+    for k in from..to {
+        m += metres(vertex(lat, lon, k), vertex(lat, lon, k + 1));
     }
     m
 }
@@ -40,14 +37,14 @@ pub(crate) fn walk(
     unit: Unit,
     at: usize,
     sum: f64,
-    stop: Position,
+    stop: Option<Point>,
     row: Distance,
 ) -> Walked
     requires at_in_bounds { at < length (line_of lat.now lon.now) }
     requires sum_value { sum ≡ length_to (line_of lat.now lon.now) at }
     ensures { result ≡ walked_of (line_of lat.now lon.now) unit at stop row }
 {
-    let Position::Known(point) = stop else {
+    let Some(point) = stop else {
         return Walked { at, sum, row };
     };
     let step = Cursor { at }.step(lat, lon, point);

@@ -1,4 +1,5 @@
 -- The trips of the tables, one after the other. Assumes nothing.
+use Rattle.std.specs.Prelude.{Option}
 use Prim.Native.Nat.{ℕ, zero, suc, ◌+◌, ◌-◌, ◌<◌, ◌≤◌}
 use native.Mathlib.Omega.{arith}
 use mathlib.Core.Path.{◌≡◌, refl, sym, ap, ◌∙◌}
@@ -12,7 +13,6 @@ use borrow.Author.Tests.{lt-ltb, le-ltb, ltb-false}
 use borrow.Rule.Slice.PartMut.{put_mid}
 use Rattle.ids.specs.Pool.{cell_of}
 use Rattle.lengths.specs.declared.line.Point.{Point}
-use Rattle.projection.specs.declared.cursor.Position.{Position}
 use Rattle.tables.specs.declared.lent.Tables.{Tables}
 use Rattle.trip_rows.specs.Rows.{row_position, trip_line}
 use Rattle.trip_vertices.specs.Vertices.{positions_from}
@@ -60,7 +60,7 @@ module _ (bytes words : List ℕ) (reals : List Float) (t : Tables) (trip : ℕ)
   abbrev trip_line_of : List Point
   trip_line_of = trip_line bytes words reals t.trips t.shapes t.points trip
 
-  abbrev trip_stops : List Position
+  abbrev trip_stops : List (Option Point)
   trip_stops = positions_from (row_position bytes words reals t.stops t.times) first_row row_count
 
   pub trip_count : (rows : List Distance) → length (after_trip bytes words reals t trip rows) ≡ length rows
@@ -92,7 +92,7 @@ module _ (bytes words : List ℕ) (reals : List Float) (t : Tables) (trip : ℕ)
     filled h = rw (le-ltb (length (rows_of ds ms)) (first_row + row_count) (omega (arith, all_count)))
 
     -- by what was written into the part
-    pub trip_filled : {first n : ℕ} → first ≡ first_row → n ≡ row_count → first + n ≤ length ds → {line : List Point} → line ≡ trip_line_of → {stops : List Position} →
+    pub trip_filled : {first n : ℕ} → first ≡ first_row → n ≡ row_count → first + n ≤ length ds → {line : List Point} → line ≡ trip_line_of → {stops : List (Option Point)} →
         stops ≡ positions_from (row_position bytes words reals t.stops t.times) first n → {ds' : List Float} {ms' : List ℕ} →
         ds' ≡ dists_in (backfill_of line stops (rows_of (take (first + n - first) (drop first ds)) (take (first + n - first) (drop first ms)))) →
         ms' ≡ marks_in (backfill_of line stops (rows_of (take (first + n - first) (drop first ds)) (take (first + n - first) (drop first ms)))) →

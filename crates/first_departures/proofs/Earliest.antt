@@ -1,4 +1,5 @@
 -- The first departure of rows. Assumes nothing.
+use Rattle.std.specs.Prelude.{Option, Some, None}
 use Prim.Native.Nat.{ℕ, zero, suc, ◌+◌, ◌<◌, ◌≤◌, min}
 use native.Mathlib.Omega.{arith}
 use native.Mathlib.Nat.{eq-or-lt_of_le, le_of_suc-le-suc}
@@ -14,8 +15,6 @@ use Rattle.tables.specs.declared.lent.Updates.{Updates}
 use Rattle.update_rows.specs.Updates.{is_timed}
 use Rattle.update_times.specs.Times.{departure_of}
 use Rattle.first_departures.specs.Firsts.{least_of, earlier, first_below}
-use Rattle.first_departures.specs.declared.first.Moment.{Moment}
-use Rattle.first_departures.specs.declared.first.Moment.TheVariants.{At, Nothing}
 
 pub first_next : (bytes : List ℕ) (u : Updates) (times : List ℤ) (k : ℕ) → first_below bytes u times (k + 1) ≡ earlier bytes u times (first_below bytes u times k) k
 unfolding first_below
@@ -30,14 +29,14 @@ module _ (bytes : List ℕ) (u : Updates) (times : List ℤ) where
     pub departs : departure_of bytes u times row ≡ m
     pub least : (k : ℕ) → k < n → is_timed bytes u k ≡ true → m ≤ departure_of bytes u times k
 
-  none_earlier : (f : Moment) (n : ℕ) → earlier bytes u times f n ≡ Nothing → (f ≡ Nothing) × (is_timed bytes u n ≡ false)
+  none_earlier : (f : Option ℕ) (n : ℕ) → earlier bytes u times f n ≡ None → (f ≡ None) × (is_timed bytes u n ≡ false)
   none_earlier f n e = go (is_timed bytes u n) refl f e where
-    go : (s : Bool) → is_timed bytes u n ≡ s → (g : Moment) → cond s (least_of g (departure_of bytes u times n)) g ≡ Nothing → (g ≡ Nothing) × (is_timed bytes u n ≡ false)
-    go true t (At a) q = clash (cc)
-    go true t Nothing q = clash (cc)
+    go : (s : Bool) → is_timed bytes u n ≡ s → (g : Option ℕ) → cond s (least_of g (departure_of bytes u times n)) g ≡ None → (g ≡ None) × (is_timed bytes u n ≡ false)
+    go true t (Some a) q = clash (cc)
+    go true t None q = clash (cc)
     go false t g q = (q, t)
 
-  pub first_none : (n : ℕ) → first_below bytes u times n ≡ Nothing → (k : ℕ) → k < n → is_timed bytes u k ≡ false
+  pub first_none : (n : ℕ) → first_below bytes u times n ≡ None → (k : ℕ) → k < n → is_timed bytes u k ≡ false
   unfolding first_below
   first_none zero e k l = absurd (omega arith)
   first_none (suc n) e k l =
@@ -75,17 +74,17 @@ module _ (bytes : List ℕ) (u : Updates) (times : List ℤ) where
     least = λ k l s. ⊎_elim (λ (q : k ≡ n). omega (arith, ap (departure_of bytes u times) q)) (λ q. h.least k q s) (eq-or-lt_of_le (le_of_suc-le-suc l));
   }
 
-  pub first_is : (n m : ℕ) → first_below bytes u times n ≡ At m → Earliest n m
+  pub first_is : (n m : ℕ) → first_below bytes u times n ≡ Some m → Earliest n m
   unfolding first_below
   first_is zero m e = clash (cc)
   first_is (suc n) m e = go (is_timed bytes u n) refl (first_below bytes u times n) refl e (first_is n) where
-    go : (s : Bool) → is_timed bytes u n ≡ s → (f : Moment) → first_below bytes u times n ≡ f → cond s (least_of f (departure_of bytes u times n)) f ≡ At m →
-        ((a : ℕ) → first_below bytes u times n ≡ At a → Earliest n a) → Earliest (suc n) m
+    go : (s : Bool) → is_timed bytes u n ≡ s → (f : Option ℕ) → first_below bytes u times n ≡ f → cond s (least_of f (departure_of bytes u times n)) f ≡ Some m →
+        ((a : ℕ) → first_below bytes u times n ≡ Some a → Earliest n a) → Earliest (suc n) m
     go false t f q r h = still n m t (h m (q ∙ r))
-    go true t Nothing q r h =
+    go true t None q r h =
         let o : departure_of bytes u times n ≡ m = cc in
         rw (← o) (now_first n t (λ k l s. let z : is_timed bytes u k ≡ false = first_none n q k l in clash (cc)))
-    go true t (At a) q r h =
+    go true t (Some a) q r h =
         let o : min a (departure_of bytes u times n) ≡ m = cc in
         ⊎_elim (λ z. let l : departure_of bytes u times n < a = ltb-true _ _ z in let i : departure_of bytes u times n ≡ m = omega arith in
         rw (← i) (now_first n t (λ k b s. omega (arith, (h a q).least k b s))))

@@ -5,30 +5,18 @@ ghost use Rattle.first_departures.specs.Firsts.{least_of, earlier, first_departu
 use tables::Updates;
 use update_rows::{is_timed, moment_or};
 
-// A moment, in seconds, or none.
-#[derive(Clone, Copy)]
-pub enum Moment {
-    At(u64),
-    Nothing,
-}
-
 // The earlier of a moment, if there is one, and another.
-fn least(first: Moment, x: u64) -> Moment
+fn least(first: Option<u64>, x: u64) -> Option<u64>
     ensures { result ≡ least_of first x }
 {
     match first {
-        Moment::At(a) => {
-            if x < a {
-                return Moment::At(x);
-            }
-            first
-        }
-        Moment::Nothing => Moment::At(x),
+        Some(a) => Some(a.min(x)),
+        None => Some(x),
     }
 }
 
 // The earlier of a moment, if there is one, and row k's departure, if it has a time.
-fn earlier_of(bytes: &[u8], times: &[i64], u: Updates, first: Moment, k: usize) -> Moment
+fn earlier_of(bytes: &[u8], times: &[i64], u: Updates, first: Option<u64>, k: usize) -> Option<u64>
     ensures { result ≡ earlier bytes.now u times.now first k }
 {
     let departs = u.departs;
@@ -44,16 +32,14 @@ fn earlier_of(bytes: &[u8], times: &[i64], u: Updates, first: Moment, k: usize) 
 }
 
 // The first departure, an update's arrival where it has none.
-pub fn first_departure(bytes: &[u8], times: &[i64], u: Updates) -> Moment
+#[tactic(auto, using(crate::proofs::Earliest::first_next), unfolding(crate::specs::Firsts::first_departure, crate::specs::Firsts::first_below))]
+pub fn first_departure(bytes: &[u8], times: &[i64], u: Updates) -> Option<u64>
     ensures { result ≡ first_departure bytes.now u times.now }
 {
     let sequence = u.sequence;
-    let n = sequence.n as usize;
-    let mut first = Moment::Nothing;
-    let mut k = 0;
-    while k < n {
+    let mut first = None;
+    for k in 0..sequence.n as usize {
         first = earlier_of(bytes, times, u, first, k);
-        k += 1;
     }
     first
 }

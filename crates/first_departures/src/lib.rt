@@ -3,4 +3,4 @@
 
 mod first; // the first departure
 
-pub use first::{Moment, first_departure};
+pub use first::first_departure;

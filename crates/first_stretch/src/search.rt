@@ -4,18 +4,16 @@ ghost use Rattle.lengths.specs.Line.{line_of};
 ghost use Rattle.first_stretch.specs.Search.{fraction_of, meets, stretch_at};
 
 use ieee::{clamp01, max_of};
-use line_parts::{Part, less, stretch_length};
+use line_parts::{Part, stretch_length};
 use stretches::Spot;
 
 // Whether a target is on the stretch from the length `from` to the length `to`, or no more than the
 // tolerance past it.
+#[tactic(auto, unfolding(crate::specs::Search::meets))]
 fn met(tolerance: f64, target: f64, from: f64, to: f64) -> bool
     ensures { result ≡ meets tolerance target from to }
 {
-    if target >= from {
-        return target <= to + tolerance;
-    }
-    false
+    target >= from && target <= to + tolerance
 }
 
 // Which fraction of that stretch is behind the target. A stretch counts as a millionth of a metre at
@@ -30,16 +28,13 @@ fn fraction(target: f64, from: f64, to: f64) -> f64
 pub fn stretch_at(lat: &[f64], lon: &[f64], part: Part, tolerance: f64, target: f64) -> Spot
     ensures { result ≡ stretch_at (line_of lat.now lon.now) part tolerance target }
 {
-    let n = less(part.last, part.first);
     let mut sum = 0.0;
-    let mut j = 0;
-    while j < n {
-        let next = sum + stretch_length(lat, lon, part.first + j);
+    for k in part.first..part.last {
+        let next = sum + stretch_length(lat, lon, k);
         if met(tolerance, target, sum, next) {
-            return Spot::Stretch(part.first + j, fraction(target, sum, next));
+            return Spot::Stretch(k, fraction(target, sum, next));
         }
         sum = next;
-        j += 1;
     }
     Spot::NoStretch
 }

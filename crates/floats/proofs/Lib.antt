@@ -1,4 +1,4 @@
--- The laws of floats, over the format: `compare`, NaN, the order, rounding, sums, products, whole numbers, bounds and signs; and the bits of a rounded value.
+-- The laws of floats, over the format: `compare`, NaN, the order, rounding, sums, products, whole numbers, bounds and signs.
 pub mod Compare
 pub mod Nan
 pub mod Signed
@@ -8,5 +8,4 @@ pub mod Sums
 pub mod Products
 pub mod Whole
 pub mod Within
-pub mod Encode
 pub mod Signs

@@ -2,13 +2,13 @@
 use mathlib.Core.Path.{◌≡◌}
 use lib.Dec.{T}
 use Rattle.tables.specs.Pools.{Pools}
-use Rattle.refusals.specs.Refuse.{joined, refusal_of}
+use Rattle.verdicts.specs.Refuse.{joined, refusal_of}
 use Rattle.tables.specs.declared.bounds.Bounds.{Bounds}
 use Rattle.tables.specs.declared.lent.Along.{Along}
 use Rattle.tables.specs.declared.lent.LegAsked.{LegAsked}
 use Rattle.tables.specs.declared.lent.Samples.{Samples}
 use Rattle.tables.specs.declared.lent.Tables.{Tables}
-use Rattle.refusals.proofs.Passed.{numbered, Clear, clear_at, not_refused}
+use Rattle.verdicts.proofs.Passed.{numbered, Clear, clear_at, not_refused}
 use Rattle.stop_rules.specs.Parts.{stops_causes}
 use Rattle.trip_rules.specs.Parts.{trips_causes}
 use Rattle.schedule_rules.specs.Parts.{calls_causes, placing_causes}

@@ -1,7 +1,7 @@
 -- The causes of each operation of geometry of document 01, over all of each table that is lent to it. An index into a table that is not lent is not tested, and a fault that the
 -- operation has no number for is none.
 use Rattle.std.specs.Prelude.{List, [], ◌∷◌}
-use Rattle.refusals.specs.Refuse.{Cause, joined}
+use Rattle.verdicts.specs.Refuse.{Cause, joined}
 use Rattle.tables.specs.declared.bounds.Bounds.{Bounds}
 use Rattle.tables.specs.declared.lent.Along.{Along}
 use Rattle.tables.specs.declared.lent.LegAsked.{LegAsked}

@@ -1,129 +1,64 @@
 // Each operation's check: the least refusal over the rules of every table that is lent to it.
 ghost use Rattle.std.specs.Prelude.{◌≡◌};
-ghost use Rattle.tables.specs.Pools.{pools};
-ghost use Rattle.refusals.specs.Refuse.{refusal_of};
+ghost use Rattle.refusals.specs.Answer.{answer_of, number_of};
+ghost use Rattle.tables.specs.Pools.{pools_of};
+ghost use Rattle.verdicts.specs.Refuse.{refusal_of};
+ghost use Rattle.verdicts.specs.Verdict.{least};
 ghost use Rattle.geometry_checks.specs.Operations.{geometry_causes, leg_causes, interpolation_causes, calibration_causes};
 
-use tables::{Along, Bounds, LegAsked, Samples, Tables};
+use refusals::Refusal;
+use tables::{Along, Bounds, LegAsked, Lent, Samples, Tables};
+use verdicts::Verdict;
 
-// The first refusal of projection and backfill, or 0: stops, trips, stop times, shapes and points.
-pub fn check_geometry(
-    bytes: &[u8],
-    words: &[u32],
-    times: &[i64],
-    reals: &[f64],
-    dists: &[f32],
-    b: Bounds,
-    t: Tables,
-) -> u32
-    ensures { result ≡ refusal_of (pools bytes.now words.now times.now reals.now dists.now) (geometry_causes b t) }
+// The causes of projection and backfill: stops, trips, stop times, shapes and points.
+pub fn geometry(lent: &Lent, b: Bounds, t: Tables) -> Verdict
+    ensures { least result ≡ refusal_of (pools_of lent.now) (geometry_causes b t) }
 {
-    let stops = t.stops;
-    let trips = t.trips;
-    let calls = t.times;
-    let shapes = t.shapes;
-    let points = t.points;
-    let best1 = stop_rules::stops(bytes, words, times, reals, dists, 0, b, stops);
-    let best2 = trip_rules::trips(
-        bytes,
-        words,
-        times,
-        reals,
-        dists,
-        best1,
-        b,
-        trips,
-        calls.stop.n,
-    );
-    let best3 = schedule_rules::calls(bytes, words, times, reals, dists, best2, b, calls);
-    let best4 = schedule_rules::placing(
-        bytes,
-        words,
-        times,
-        reals,
-        dists,
-        best3,
-        trips,
+    let stops = stop_rules::stops(Verdict::new(), lent, b, t.stops);
+    let trips = trip_rules::trips(stops, lent, b, t.trips, t.times.stop.n);
+    let calls = schedule_rules::calls(trips, lent, b, t.times);
+    let placing = schedule_rules::placing(
         calls,
-        shapes.first.n,
-        stops.lat.n,
+        lent,
+        t.trips,
+        t.times,
+        t.shapes.first.n,
+        t.stops.lat.n,
     );
-    let best5 = shape_rules::shapes(
-        bytes,
-        words,
-        times,
-        reals,
-        dists,
-        best4,
-        b,
-        shapes,
-        points.lat.n,
-    );
-    shape_rules::points(bytes, words, times, reals, dists, best5, points)
+    let shapes = shape_rules::shapes(placing, lent, b, t.shapes, t.points.lat.n);
+    shape_rules::points(shapes, lent, t.points)
 }
 
-// The first refusal of leg drawing, or 0: the same, the trip ids, and the trip asked of.
-pub fn check_leg(
-    bytes: &[u8],
-    words: &[u32],
-    times: &[i64],
-    reals: &[f64],
-    dists: &[f32],
-    b: Bounds,
-    t: Tables,
-    l: LegAsked,
-) -> u32
-    ensures { result ≡ refusal_of (pools bytes.now words.now times.now reals.now dists.now) (leg_causes b t l) }
+// The check of projection and backfill.
+pub fn check_geometry(lent: &Lent, b: Bounds, t: Tables) -> Result<(), Refusal>
+    ensures { number_of (answer_of result) ≡ refusal_of (pools_of lent.now) (geometry_causes b t) }
 {
-    let tripkeys = t.tripkeys;
-    let n = t.trips.first.n;
-    let best1 = check_geometry(bytes, words, times, reals, dists, b, t);
-    let best2 = lookup_rules::id_rows(
-        bytes, words, times, reals, dists, best1, b, tripkeys, b.trips, n,
-    );
-    asked_rules::leg_asked(bytes, words, times, reals, dists, best2, b, l)
+    geometry(lent, b, t).finish()
 }
 
-// The first refusal of interpolation alone, or 0: the line, the ends of a leg, distances and numbers.
-pub fn check_interpolation(
-    bytes: &[u8],
-    words: &[u32],
-    times: &[i64],
-    reals: &[f64],
-    dists: &[f32],
-    b: Bounds,
-    a: Along,
-) -> u32
-    ensures { result ≡ refusal_of (pools bytes.now words.now times.now reals.now dists.now) (interpolation_causes b a) }
+// The check of leg drawing: the same, the trip ids, and the trip asked of.
+pub fn check_leg(lent: &Lent, b: Bounds, t: Tables, l: LegAsked) -> Result<(), Refusal>
+    ensures { number_of (answer_of result) ≡ refusal_of (pools_of lent.now) (leg_causes b t l) }
 {
-    let line = a.line;
-    let ends = a.ends;
-    let ds = a.dists;
-    let numbers = a.numbers;
-    let best1 = shape_rules::points_within(bytes, words, times, reals, dists, 0, line, b.points);
-    let best2 = shape_rules::points(bytes, words, times, reals, dists, best1, ends);
-    shape_rules::measures(bytes, words, times, reals, dists, best2, ds, numbers, ds.n)
+    let geometry = geometry(lent, b, t);
+    let tripkeys = lookup_rules::id_rows(geometry, lent, b, t.tripkeys, b.trips, t.trips.first.n);
+    asked_rules::leg_asked(tripkeys, lent, b, l).finish()
 }
 
-// The first refusal of calibration alone, or 0: the line, samples and numbers.
-pub fn check_calibration(
-    bytes: &[u8],
-    words: &[u32],
-    times: &[i64],
-    reals: &[f64],
-    dists: &[f32],
-    b: Bounds,
-    s: Samples,
-) -> u32
-    ensures { result ≡ refusal_of (pools bytes.now words.now times.now reals.now dists.now) (calibration_causes b s) }
+// The check of interpolation alone: the line, the ends of a leg, distances and numbers.
+pub fn check_interpolation(lent: &Lent, b: Bounds, a: Along) -> Result<(), Refusal>
+    ensures { number_of (answer_of result) ≡ refusal_of (pools_of lent.now) (interpolation_causes b a) }
 {
-    let line = s.line;
-    let at = s.at;
-    let dist = s.dist;
-    let numbers = s.numbers;
-    let best1 = shape_rules::points_within(bytes, words, times, reals, dists, 0, line, b.points);
-    let best2 = shape_rules::points_within(bytes, words, times, reals, dists, best1, at, b.calls);
-    shape_rules::measures(
-        bytes, words, times, reals, dists, best2, dist, numbers, at.lat.n,
-    )
+    let line = shape_rules::points_within(Verdict::new(), lent, a.line, b.points);
+    let ends = shape_rules::points(line, lent, a.ends);
+    shape_rules::measures(ends, lent, a.dists, a.numbers, a.dists.n).finish()
+}
+
+// The check of calibration alone: the line, samples and numbers.
+pub fn check_calibration(lent: &Lent, b: Bounds, s: Samples) -> Result<(), Refusal>
+    ensures { number_of (answer_of result) ≡ refusal_of (pools_of lent.now) (calibration_causes b s) }
+{
+    let line = shape_rules::points_within(Verdict::new(), lent, s.line, b.points);
+    let at = shape_rules::points_within(line, lent, s.at, b.calls);
+    shape_rules::measures(at, lent, s.dist, s.numbers, s.at.lat.n).finish()
 }

@@ -1,4 +1,6 @@
 -- The order of texts is total: each law is over all lists. Assumes nothing.
+use Rattle.std.specs.declared.cmp.Ordering.{Ordering}
+use Rattle.std.specs.declared.cmp.Ordering.TheVariants.{Less, Equal, Greater}
 use Prim.Native.Nat.{ℕ, ◌<◌, ◌≤◌, ◌+◌}
 use mathlib.Core.Path.{◌≡◌, refl, sym, ap, ◌∙◌}
 use mathlib.Core.Logic.{◌⊎◌, inl, inr, ⊎_elim, ◌↔◌}
@@ -10,8 +12,6 @@ use lib.ListN.{length, get_or, drop, drop_of_length-le}
 use lib.Seq.{drop-cons}
 use lib.Dec.{ltb, eqb}
 use borrow.Author.Tests.{lt-ltb, le-ltb, ltb-true, ltb-false, eq-eqb, eqb-true}
-use Rattle.ids.specs.declared.order.Order.{Order}
-use Rattle.ids.specs.declared.order.Order.TheVariants.{Less, Same, More}
 use Rattle.ids.specs.Cmp.{cmp, equal}
 
 -- Cases of a test, and of two numbers.
@@ -34,7 +34,7 @@ module _ (x y : ℕ) (a b : List ℕ) where
   unfolding cmp
   head_less h = simp (lt-ltb x y h)
 
-  pub head_more : y < x → cmp (x ∷ a) (y ∷ b) ≡ More
+  pub head_more : y < x → cmp (x ∷ a) (y ∷ b) ≡ Greater
   unfolding cmp
   head_more h = let l : y ≤ x = omega arith in simp (le-ltb x y l, lt-ltb y x h)
 
@@ -63,10 +63,10 @@ less_trans (x ∷ a) (y ∷ b) (z ∷ c) p q =
     (less_heads x y a b p)
 
 -- Antisymmetric: the other way round the answer is turned round.
-abbrev pub flip : Order → Order
-flip Less = More
-flip Same = Same
-flip More = Less
+abbrev pub flip : Ordering → Ordering
+flip Less = Greater
+flip Equal = Equal
+flip Greater = Less
 
 pub cmp-flip : (a b : List ℕ) → cmp b a ≡ flip (cmp a b)
 unfolding cmp
@@ -78,11 +78,11 @@ cmp-flip (x ∷ a) (y ∷ b) =
     (λ r. ⊎_elim (λ q. head_same y x b a (sym q) ∙ cmp-flip a b ∙ ap flip (sym (head_same x y a b q))) (λ g. head_less y x b a g ∙ ap flip (sym (head_more x y a b g))) r)
     (tri x y)
 
-pub less_more : (a b : List ℕ) → (cmp a b ≡ Less) ↔ (cmp b a ≡ More)
+pub less_more : (a b : List ℕ) → (cmp a b ≡ Less) ↔ (cmp b a ≡ Greater)
 less_more a b = (λ e. cmp-flip a b ∙ ap flip e, λ e. cmp-flip b a ∙ ap flip e)
 
--- Same exactly where the lists are equal.
-same_eq : (a b : List ℕ) → cmp a b ≡ Same → a ≡ b
+-- Equal exactly where the lists are equal.
+same_eq : (a b : List ℕ) → cmp a b ≡ Equal → a ≡ b
 unfolding cmp
 same_eq [] [] p = refl
 same_eq [] (y ∷ b) p = clash (cc)
@@ -92,12 +92,12 @@ same_eq (x ∷ a) (y ∷ b) p =
     (λ r. ⊎_elim (λ q. let t = same_eq a b (sym (head_same x y a b q) ∙ p) in (cc)) (λ g. let m = head_more x y a b g in clash (cc)) r)
     (tri x y)
 
-cmp_refl : (a : List ℕ) → cmp a a ≡ Same
+cmp_refl : (a : List ℕ) → cmp a a ≡ Equal
 unfolding cmp
 cmp_refl [] = refl
 cmp_refl (x ∷ a) = head_same x x a a refl ∙ cmp_refl a
 
-pub same_equal : (a b : List ℕ) → (cmp a b ≡ Same) ↔ (a ≡ b)
+pub same_equal : (a b : List ℕ) → (cmp a b ≡ Equal) ↔ (a ≡ b)
 same_equal a b = (same_eq a b, λ e. ap (cmp a) (sym e) ∙ cmp_refl a)
 
 -- The test `equal` holds exactly where the lists are equal.
@@ -128,7 +128,7 @@ equal_iff a b = (equal_eq a b, λ e. ap (equal a) (sym e) ∙ equal_refl a)
 pub unequal : (a b : List ℕ) → (a ≡ b → ⊥) → equal a b ≡ false
 unequal a b h = ⊎_elim (λ t. absurd (h (equal_eq a b t))) (λ f. f) (split (equal a b))
 
-pub different : (a b : List ℕ) → (cmp a b ≡ Same → ⊥) → equal a b ≡ false
+pub different : (a b : List ℕ) → (cmp a b ≡ Equal → ⊥) → equal a b ≡ false
 different a b h = unequal a b (λ e. h ((same_equal a b).1 e))
 
 -- What a loop that has compared the first i bytes sees next.
@@ -136,7 +136,7 @@ module _ (a b : List ℕ) (i : ℕ) where
   pub next_bytes : i < length a → i < length b → cmp (drop i a) (drop i b) ≡ cmp (get_or a i 0 ∷ drop (i + 1) a) (get_or b i 0 ∷ drop (i + 1) b)
   next_bytes h k = rw (add-one, drop-cons a i 0 h, drop-cons b i 0 k)
 
-  pub second_ends : i < length a → length b ≤ i → cmp (drop i a) (drop i b) ≡ More
+  pub second_ends : i < length a → length b ≤ i → cmp (drop i a) (drop i b) ≡ Greater
   unfolding cmp
   second_ends h k = simp (drop-cons a i 0 h, drop_of_length-le b k)
 
@@ -144,6 +144,6 @@ module _ (a b : List ℕ) (i : ℕ) where
   unfolding cmp
   first_ends h k = simp (drop_of_length-le a h, drop-cons b i 0 k)
 
-  pub both_end : length a ≤ i → length b ≤ i → cmp (drop i a) (drop i b) ≡ Same
+  pub both_end : length a ≤ i → length b ≤ i → cmp (drop i a) (drop i b) ≡ Equal
   unfolding cmp
   both_end h k = simp (drop_of_length-le a h, drop_of_length-le b k)

@@ -4,3 +4,4 @@ pub mod ByteOrder
 pub mod Search
 pub mod Rows
 pub mod Pools
+pub mod SliceOrder

@@ -1,14 +1,14 @@
 -- The order of texts.
+use Rattle.std.specs.declared.cmp.Ordering.{Ordering}
+use Rattle.std.specs.declared.cmp.Ordering.TheVariants.{Less, Equal, Greater}
 use Rattle.std.specs.Prelude.{ℕ, List, [], ◌∷◌, Bool, true, false, ◌&&◌, cond, ltb, eqb}
-use Rattle.ids.specs.declared.order.Order.{Order}
-use Rattle.ids.specs.declared.order.Order.TheVariants.{Less, Same, More}
 
 -- by the first byte that differs; a text comes before those that extend it
-unfoldable pub cmp : List ℕ → List ℕ → Order
-cmp [] [] = Same
+unfoldable pub cmp : List ℕ → List ℕ → Ordering
+cmp [] [] = Equal
 cmp [] (y ∷ b) = Less
-cmp (x ∷ a) [] = More
-cmp (x ∷ a) (y ∷ b) = cond (ltb x y) Less (cond (ltb y x) More (cmp a b))
+cmp (x ∷ a) [] = Greater
+cmp (x ∷ a) (y ∷ b) = cond (ltb x y) Less (cond (ltb y x) Greater (cmp a b))
 
 -- the same bytes, and as many
 unfoldable pub equal : List ℕ → List ℕ → Bool

@@ -1,7 +1,6 @@
 -- A table of ids, as its rows and their count: row k is a text.
-use Rattle.std.specs.Prelude.{ℕ, ◌<◌, ◌≤◌, ◌≡◌, List, Bool, length}
-use Rattle.ids.specs.declared.order.Order.TheVariants.{Less}
-use Rattle.ids.specs.declared.lookup.Found.{Found}
+use Rattle.std.specs.declared.cmp.Ordering.TheVariants.{Less}
+use Rattle.std.specs.Prelude.{ℕ, ◌<◌, ◌≤◌, ◌≡◌, List, Bool, length, Option}
 use Rattle.ids.specs.Cmp.{cmp, equal}
 use Rattle.ids.specs.First.{first}
 
@@ -10,7 +9,7 @@ abbrev pub row_is : (ℕ → List ℕ) → List ℕ → ℕ → Bool
 row_is row key k = equal (row k) key
 
 -- the first row that is the key; in rows that ascend it is the only one (`found_row` in proofs/Rows)
-unfoldable pub row_of : (ℕ → List ℕ) → ℕ → List ℕ → Found
+unfoldable pub row_of : (ℕ → List ℕ) → ℕ → List ℕ → Option ℕ
 row_of row n key = first (row_is row key) n
 
 -- each row comes before all later ones

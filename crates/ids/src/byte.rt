@@ -16,37 +16,24 @@ pub enum Kind {
 pub fn digit(b: u8) -> bool
     ensures { result ≡ is_digit b }
 {
-    if b < 48 {
-        return false;
-    }
-    b <= 57
+    b.is_ascii_digit()
 }
 
 // A letter's upper case, and any other byte itself.
+#[tactic(auto, unfolding(crate::specs::Bytes::upper_of))]
 pub fn upper(b: u8) -> u8
     ensures { result ≡ upper_of b }
 {
-    if b < 97 {
-        return b;
-    }
-    if 122 < b {
-        return b;
-    }
-    b - 32
+    b.to_ascii_uppercase()
 }
 
 // A letter or a digit.
+#[tactic(auto, unfolding(crate::specs::Bytes::is_alnum))]
 pub fn alnum(b: u8) -> bool
     ensures { result ≡ is_alnum b }
 {
-    if digit(b) {
-        return true;
-    }
     let c = upper(b);
-    if c < 65 {
-        return false;
-    }
-    c <= 90
+    b.is_ascii_digit() || (65 <= c && c <= 90)
 }
 
 pub fn of_kind(kind: Kind, b: u8) -> bool
@@ -63,8 +50,5 @@ pub fn of_kind(kind: Kind, b: u8) -> bool
 pub fn letter(fold: bool, b: u8) -> u8
     ensures { result ≡ fold_of fold b }
 {
-    if fold {
-        return upper(b);
-    }
-    b
+    if fold { upper(b) } else { b }
 }

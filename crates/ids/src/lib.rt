@@ -12,6 +12,6 @@ pub mod lookup; // the row of an id, by halves
 pub mod byte; // single bytes: digits, letters, upper case
 
 pub use byte::{Kind, alnum, digit, letter, of_kind, upper};
-pub use lookup::{Found, find};
-pub use order::{Order, compare};
+pub use lookup::find;
+pub use order::compare;
 pub use pool::{IdColumn, Span, cell, id, part, word};

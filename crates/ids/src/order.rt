@@ -2,36 +2,12 @@
 ghost use Rattle.std.specs.Prelude.{◌≡◌};
 ghost use Rattle.ids.specs.Cmp.{cmp};
 
-// How the first of two texts stands to the second.
-#[derive(Clone, Copy)]
-pub enum Order {
-    // It comes before it.
-    Less,
-    // They are equal.
-    Same,
-    // It comes after it.
-    More,
-}
+use std::cmp::Ordering;
 
 // How a stands to b.
-pub fn compare(a: &[u8], b: &[u8]) -> Order
+#[tactic(auto, using(crate::proofs::SliceOrder::cmp_is))]
+pub fn compare(a: &[u8], b: &[u8]) -> Ordering
     ensures { result ≡ cmp a.now b.now }
 {
-    let mut i = 0;
-    while i < a.len() {
-        if b.len() <= i {
-            return Order::More;
-        }
-        if a[i] < b[i] {
-            return Order::Less;
-        }
-        if b[i] < a[i] {
-            return Order::More;
-        }
-        i += 1;
-    }
-    if i < b.len() {
-        return Order::Less;
-    }
-    Order::Same
+    a.cmp(b)
 }

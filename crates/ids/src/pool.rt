@@ -25,10 +25,7 @@ pub struct IdColumn {
 pub fn word(words: &[u32], i: usize) -> u32
     ensures { result ≡ get_or words.now i 0 }
 {
-    if i < words.len() {
-        return words[i];
-    }
-    0
+    if i < words.len() { words[i] } else { 0 }
 }
 
 // Row k of a column of numbers.
@@ -45,17 +42,13 @@ pub fn cell(words: &[u32], span: Span, k: usize) -> u32
 pub fn part<'a>(bytes: &'a [u8], a: usize, n: usize) -> &'a [u8]
     ensures { result.now ≡ take n (drop a bytes.now) }
 {
-    if bytes.len() < a {
-        return &bytes[..0];
-    }
-    if bytes.len() - a < n {
-        return &bytes[a..];
-    }
-    let e = a + n;
-    &bytes[a..e]
+    let (_, rest) = bytes.split_at(bytes.len().min(a));
+    let (part, _) = rest.split_at(rest.len().min(n));
+    part
 }
 
 // Row k of a column of ids.
+#[tactic(auto, unfolding(crate::specs::Pool::id_of))]
 pub fn id<'a>(bytes: &'a [u8], words: &[u32], col: IdColumn, k: usize) -> &'a [u8]
     ensures { result.now ≡ id_of bytes.now words.now col k }
 {

@@ -11,6 +11,7 @@ use std::io::Read;
 pub fn read_full(input: &mut impl Read, buf: &mut [u8]) -> io::Result<usize>
     ensures { IfOk result (λ n. n ≤ length buf.new) }
 {
+    // no method of `Read` fills a buffer up to the end of the input: there `read_exact` is an error
     let mut done = 0;
     while done < buf.len() {
         let n = input.read(&mut buf[done..])?;

@@ -6,9 +6,9 @@ ghost use Rattle.interpolate.specs.Answers.{interpolation_of};
 
 use geometry_checks::check_interpolation;
 use line_answers::Interpolation;
-use line_questions::{Question, lent};
-use stretches::Interpolated;
-use tables::{Along, Bounds};
+use line_questions::Question;
+use refusals::number_or_zero;
+use tables::{Along, Bounds, Lent};
 
 // The position that the question asks for, or none, or the first refusal that applies.
 pub fn interpolate(
@@ -22,12 +22,19 @@ pub fn interpolate(
 ) -> Interpolation
     ensures { interpolation_answer result ≡ interpolation_of (pools bytes.now words.now times.now reals.now dists.now) question a }
 {
-    let refusal = check_interpolation(bytes, words, times, reals, dists, Bounds::chart(), a);
+    let lent = Lent {
+        bytes,
+        words,
+        times,
+        reals,
+        dists,
+    };
+    let refusal = number_or_zero(&check_interpolation(&lent, Bounds::chart(), a));
     if refusal != 0 {
         return Interpolation::Refused(refusal);
     }
-    match lent(reals, dists, question, a) {
-        Interpolated::At(drawn) => Interpolation::At(drawn),
-        Interpolated::Nothing => Interpolation::Nothing,
+    match line_questions::lent(reals, dists, question, a) {
+        Some(drawn) => Interpolation::At(drawn),
+        None => Interpolation::Nothing,
     }
 }

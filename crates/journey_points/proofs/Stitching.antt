@@ -1,4 +1,6 @@
 -- Legs and points drawn one after another. Assumes nothing.
+use Rattle.std.specs.Prelude.{Option, Some, None}
+use Rattle.lengths.specs.declared.line.Point.{Point}
 use Prim.Native.Nat.{ℕ, zero, suc, ◌+◌, ◌-◌, ◌*◌, ◌<◌, ◌≤◌}
 use native.Mathlib.Omega.{arith}
 use mathlib.Core.Path.{◌≡◌, refl, sym, ap, ◌∙◌}
@@ -8,8 +10,6 @@ use lib.Ieee.{Float}
 use lib.ListN.{length, length-set, drop}
 use Rattle.ids.specs.Pool.{cell_of}
 use Rattle.columns.specs.Rows.{bit_of}
-use Rattle.projection.specs.declared.cursor.Position.{Position}
-use Rattle.projection.specs.declared.cursor.Position.TheVariants.{Known, Missing}
 use Rattle.trip_vertices.specs.Vertices.{positions_from}
 use Rattle.point_columns.specs.Drawn.{next_of, lat_put, lon_put, drawn_from, lats_of, lons_of}
 use Rattle.point_columns.specs.Sheet.{Sheet, sheet, draw_one, draw_all}
@@ -20,13 +20,13 @@ use Rattle.journey_rules.specs.declared.lent.JourneyLegs.{JourneyLegs}
 
 -- ---- the columns keep their lengths
 
-put_lat : (out : List Float) (k : ℕ) (d : Position) → length (lat_put out k d) ≡ length out
-put_lat out k (Known p) = length-set out k p.lat
-put_lat out k Missing = refl
+put_lat : (out : List Float) (k : ℕ) (d : Option Point) → length (lat_put out k d) ≡ length out
+put_lat out k (Some p) = length-set out k p.lat
+put_lat out k None = refl
 
-put_lon : (out : List Float) (k : ℕ) (d : Position) → length (lon_put out k d) ≡ length out
-put_lon out k (Known p) = length-set out k p.lon
-put_lon out k Missing = refl
+put_lon : (out : List Float) (k : ℕ) (d : Option Point) → length (lon_put out k d) ≡ length out
+put_lon out k (Some p) = length-set out k p.lon
+put_lon out k None = refl
 
 -- a drawing that went on: in columns as long as they were, and no more rows than so many
 pub record Onward (s s' : Sheet) (most : ℕ) : Type 0 where
@@ -34,13 +34,13 @@ pub record Onward (s s' : Sheet) (most : ℕ) : Type 0 where
   pub lons : length s'.lon ≡ length s.lon
   pub few : s'.at ≤ s.at + most
 
-pub one_on : (s : Sheet) (x : Position) → Onward s (draw_one differ s x) 1
+pub one_on : (s : Sheet) (x : Option Point) → Onward s (draw_one differ s x) 1
 unfolding draw_one
 one_on s x =
     let d = next_of differ s.last x in
     record { lats = put_lat s.lat s.at d; lons = put_lon s.lon s.at d; few = one_most differ s x }
 
-pub all_on : (s : Sheet) (xs : List Position) → Onward s (draw_all differ s xs) (length xs)
+pub all_on : (s : Sheet) (xs : List (Option Point)) → Onward s (draw_all differ s xs) (length xs)
 unfolding draw_all
 all_on s [] = record { lats = refl; lons = refl; few = omega arith }
 all_on s (x ∷ xs) =
@@ -48,29 +48,29 @@ all_on s (x ∷ xs) =
     let b = all_on (draw_one differ s x) xs in
     record { lats = b.lats ∙ a.lats; lons = b.lons ∙ a.lons; few = omega (arith, a.few, b.few) }
 
-positions_count : (position : ℕ → Position) (row n : ℕ) → length (positions_from position row n) ≡ n
+positions_count : (position : ℕ → Option Point) (row n : ℕ) → length (positions_from position row n) ≡ n
 unfolding positions_from
 positions_count position row zero = refl
 positions_count position row (suc n) = ap suc (positions_count position (suc row) n)
 
 -- by a leg's points, and by its ends
-pub rows_on : (s : Sheet) {s' : Sheet} (position : ℕ → Position) (row n : ℕ) → s' ≡ draw_all differ s (positions_from position row n) → s'.at ≤ s.at + n
+pub rows_on : (s : Sheet) {s' : Sheet} (position : ℕ → Option Point) (row n : ℕ) → s' ≡ draw_all differ s (positions_from position row n) → s'.at ≤ s.at + n
 rows_on s position row n e = rw e (omega (arith, (all_on s (positions_from position row n)).few, positions_count position row n))
 
-pub two_on : (s : Sheet) {s' : Sheet} (x y : Position) → s' ≡ draw_all differ s (x ∷ y ∷ []) → s'.at ≤ s.at + 2
+pub two_on : (s : Sheet) {s' : Sheet} (x y : Option Point) → s' ≡ draw_all differ s (x ∷ y ∷ []) → s'.at ≤ s.at + 2
 two_on s x y e = rw e (all_on s (x ∷ y ∷ [])).few
 
 -- two positions
-pub both : (s₀ : Sheet) {s₁ s₂ : Sheet} (x y : Position) → s₁ ≡ draw_one differ s₀ x → s₂ ≡ draw_one differ s₁ y → s₂ ≡ draw_all differ s₀ (x ∷ y ∷ [])
+pub both : (s₀ : Sheet) {s₁ s₂ : Sheet} (x y : Option Point) → s₁ ≡ draw_one differ s₀ x → s₂ ≡ draw_one differ s₁ y → s₂ ≡ draw_all differ s₀ (x ∷ y ∷ [])
 unfolding draw_all
 both s₀ x y e f = f ∙ rw e
 
-pub first_few : (s₀ : Sheet) {s₁ : Sheet} (x : Position) → s₁ ≡ draw_one differ s₀ x → s₁.at ≤ s₀.at + 1
+pub first_few : (s₀ : Sheet) {s₁ : Sheet} (x : Option Point) → s₁ ≡ draw_one differ s₀ x → s₁.at ≤ s₀.at + 1
 first_few s₀ x e = rw e (one_on s₀ x).few
 
 -- ---- the loop over a leg's points
 
-module _ (position : ℕ → Position) (first n : ℕ) (s₀ : Sheet) where
+module _ (position : ℕ → Option Point) (first n : ℕ) (s₀ : Sheet) where
   pub record Going (s : Sheet) (k : ℕ) : Type 0 where
     pub so_far : k ≤ n
     pub on : Onward s₀ s k
@@ -102,7 +102,7 @@ module _ (position : ℕ → Position) (first n : ℕ) (s₀ : Sheet) where
 
 -- ---- the loop over legs
 
-module _ (leg : ℕ → List Position) (n : ℕ) (s₀ : Sheet) where
+module _ (leg : ℕ → List (Option Point)) (n : ℕ) (s₀ : Sheet) where
   pub record Stitching (s : Sheet) (k : ℕ) : Type 0 where
     pub so_far : k ≤ n
     pub on : Onward s₀ s (k * 4294967295)
@@ -131,10 +131,10 @@ module _ (leg : ℕ → List Position) (n : ℕ) (s₀ : Sheet) where
     over h = let i : n - k ≡ 0 = omega arith in sym (f.left ∙ rw i)
 
 -- all drawn
-pub finished : (stops : List Position) (lat lon : List Float) {s : Sheet} → s ≡ draw_all differ (sheet lat lon Missing 0) stops →
-    (s.at ≡ length (drawn_from differ Missing stops))
-    × ((s.at ≤ length lat → s.lat ≡ lats_of (drawn_from differ Missing stops) ++ drop s.at lat)
-    × (s.at ≤ length lon → s.lon ≡ lons_of (drawn_from differ Missing stops) ++ drop s.at lon))
+pub finished : (stops : List (Option Point)) (lat lon : List Float) {s : Sheet} → s ≡ draw_all differ (sheet lat lon None 0) stops →
+    (s.at ≡ length (drawn_from differ None stops))
+    × ((s.at ≤ length lat → s.lat ≡ lats_of (drawn_from differ None stops) ++ drop s.at lat)
+    × (s.at ≤ length lon → s.lon ≡ lons_of (drawn_from differ None stops) ++ drop s.at lon))
 finished stops lat lon e = rw e (counted differ stops lat lon, (lat_done differ stops lat lon, lon_done differ stops lat lon))
 
 -- ---- what is to be drawn of a leg

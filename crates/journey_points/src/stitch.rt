@@ -10,7 +10,6 @@ use ids::Span;
 use journey_rules::JourneyLegs;
 use lengths::Point;
 use point_columns::{later, put};
-use projection::Position;
 use repeated_points::next;
 use tables::Points;
 use trip_rows::real;
@@ -18,12 +17,12 @@ use trip_rows::real;
 // The last point drawn, and the row of the next.
 #[derive(Clone, Copy)]
 pub(crate) struct Drawn {
-    pub last: Position,
+    pub last: Option<Point>,
     pub at: usize,
 }
 
 // Draws a position.
-fn draw_one(s: Drawn, stop: Position, lat: &mut [f64], lon: &mut [f64]) -> Drawn
+fn draw_one(s: Drawn, stop: Option<Point>, lat: &mut [f64], lon: &mut [f64]) -> Drawn
     requires { s.at < 18446744073709551615 }
     ensures { sheet lat.new lon.new result.last result.at ≡ draw_one differ (sheet lat.old lon.old s.last s.at) stop }
 {
@@ -49,13 +48,14 @@ fn point_at(reals: &[f64], points: Points, k: usize) -> Point
 }
 
 // Where a walk starts or ends, if that is known.
-fn end_at(bytes: &[u8], reals: &[f64], ends: Points, known: Span, leg: usize) -> Position
+fn end_at(bytes: &[u8], reals: &[f64], ends: Points, known: Span, leg: usize) -> Option<Point>
     ensures { result ≡ end_at bytes.now reals.now ends known leg }
 {
     if columns::bit(bytes, known, leg) == 0 {
-        return Position::Missing;
+        None
+    } else {
+        Some(point_at(reals, ends, leg))
     }
-    Position::Known(point_at(reals, ends, leg))
 }
 
 // Draws the walk's start and its end.
@@ -93,22 +93,16 @@ fn draw_points(
     ensures { sheet lat.new lon.new result.last result.at ≡ draw_all differ (sheet lat.old lon.old s.last s.at) (positions_from (point_position reals.now points) first n) }
 {
     let from = first as usize;
-    let rows = n as usize;
     let mut drawn = s;
-    let mut k = 0;
-    while k < rows {
-        drawn = draw_one(
-            drawn,
-            Position::Known(point_at(reals, points, from + k)),
-            lat,
-            lon,
-        );
-        k += 1;
+    for k in 0..n as usize {
+        let point = point_at(reals, points, from + k);
+        drawn = draw_one(drawn, Some(point), lat, lon);
     }
     drawn
 }
 
 // Draws a leg: a walk of fewer than two points from its start to its end, any other leg by its points.
+// Two arms draw points: with the tests joined by `&&`, what is drawn of the joined arm was not proved.
 fn draw_leg(
     bytes: &[u8],
     words: &[u32],
@@ -130,12 +124,12 @@ fn draw_leg(
     let first = ids::cell(words, firsts, leg);
     let n = ids::cell(words, counts, leg);
     if columns::bit(bytes, walk, leg) == 0 {
-        return draw_points(reals, points, first, n, s, lat, lon);
+        draw_points(reals, points, first, n, s, lat, lon)
+    } else if n < 2 {
+        draw_ends(bytes, reals, j, leg, s, lat, lon)
+    } else {
+        draw_points(reals, points, first, n, s, lat, lon)
     }
-    if n < 2 {
-        return draw_ends(bytes, reals, j, leg, s, lat, lon);
-    }
-    draw_points(reals, points, first, n, s, lat, lon)
 }
 
 // Draws the legs one after another, as far as the columns have room, and answers how many points they are.
@@ -151,16 +145,11 @@ pub fn draw_legs(
     ensures lat_after { result ≤ length lat.old → lat.new ≡ lats_of (journey_points bytes.now words.now reals.now j) ++ drop result lat.old }
     ensures lon_after { result ≤ length lon.old → lon.new ≡ lons_of (journey_points bytes.now words.now reals.now j) ++ drop result lon.old }
 {
+    let mut drawn = Drawn { last: None, at: 0 };
     let walk = j.walk;
     let legs = walk.n as usize;
-    let mut drawn = Drawn {
-        last: Position::Missing,
-        at: 0,
-    };
-    let mut k = 0;
-    while k < legs {
+    for k in 0..legs {
         drawn = draw_leg(bytes, words, reals, j, k, drawn, lat, lon);
-        k += 1;
     }
     drawn.at
 }

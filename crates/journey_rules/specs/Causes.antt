@@ -1,7 +1,8 @@
 -- What a journey is refused for: a refusal's number, and the fault that it is given for. Document 01 bounds no journey: legs are bounded as its tables of rows are, and a leg's
 -- points as those of a shape.
 use Rattle.std.specs.Prelude.{ℕ, ◌+◌, List, [], ◌∷◌}
-use Rattle.refusals.specs.Refuse.{Cause, always, where_set, cause, joined}
+use Rattle.verdicts.specs.Refuse.{Cause, cause, joined}
+use Rattle.tables.specs.Marks.{always, where_set}
 use Rattle.tables.specs.declared.bounds.Bounds.{Bounds}
 use Rattle.tables.specs.declared.mark.Pool.TheVariants.{Bytes, Words, Reals}
 use Rattle.faults.specs.declared.fault.Test.TheVariants.{Column, Over, Reaches, OffGlobe, EndsPast}

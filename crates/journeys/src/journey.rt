@@ -2,7 +2,7 @@
 ghost use Rattle.std.specs.Prelude.{◌≡◌, length};
 ghost use Rattle.tables.specs.Pools.{pools};
 ghost use Rattle.tables.specs.Bounds.{chart_bounds};
-ghost use Rattle.refusals.specs.Refuse.{refusal_of};
+ghost use Rattle.verdicts.specs.Refuse.{refusal_of};
 ghost use Rattle.point_columns.specs.Answers.{drawing_answer, drawn_answer, lat_after, lon_after};
 ghost use Rattle.journey_rules.specs.Causes.{journey_causes};
 ghost use Rattle.journey_points.specs.Journey.{journey_points};
@@ -11,7 +11,8 @@ use crate::check::check_journey;
 use journey_points::draw_legs;
 use journey_rules::JourneyLegs;
 use point_columns::Drawing;
-use tables::Bounds;
+use refusals::number_or_zero;
+use tables::{Bounds, Lent};
 
 // Draws the legs, if there is room.
 fn draw(
@@ -56,7 +57,14 @@ pub fn journey_geometry(
     if lat.len() != lon.len() {
         return Drawing::Refused(1);
     }
-    let refusal = check_journey(bytes, words, times, reals, dists, Bounds::chart(), j);
+    let lent = Lent {
+        bytes,
+        words,
+        times,
+        reals,
+        dists,
+    };
+    let refusal = number_or_zero(&check_journey(&lent, Bounds::chart(), j));
     if refusal != 0 {
         return Drawing::Refused(refusal);
     }

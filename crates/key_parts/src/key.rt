@@ -2,7 +2,6 @@
 ghost use Rattle.std.specs.Prelude.{◌≡◌};
 ghost use Rattle.key_parts.specs.Keys.{base_of, raw_of, without_loc, without_colons, without_locs, tail_of};
 
-use ids::Found;
 use parts::{after_last, first, from, if_long};
 
 // A trip key before its last '@', or all of it.
@@ -10,8 +9,8 @@ pub fn base<'a>(key: &'a [u8]) -> &'a [u8]
     ensures { result.now ≡ base_of key.now }
 {
     match text_runs::last_of(key, b'@') {
-        Found::At(k) => first(key, k),
-        Found::Nothing => key,
+        Some(k) => first(key, k),
+        None => key,
     }
 }
 

@@ -1,2 +1,2 @@
--- `Writes`: what a loop that writes a text into a buffer has written.
-pub mod Writes
+-- `Uppers`: a text in upper case.
+pub mod Uppers

@@ -1,31 +1,20 @@
 // Texts put together in a buffer, and the row of an id made of parts, as
 // `format!("{feed_id}:IDFM:{digits}")` is looked up in rt/estimate.rs.
 ghost use Rattle.std.specs.Prelude.{◌≡◌, ◌++◌, map, ◌+◌, ◌≤◌, length, take};
-ghost use Rattle.ids.specs.Bytes.{fold_of, upper_of};
+ghost use Rattle.ids.specs.Bytes.{upper_of};
 ghost use Rattle.ids.specs.Pool.{id_of};
 ghost use Rattle.ids.specs.Rows.{GoodIds, row_of};
 
-use ids::{Found, IdColumn, find, letter};
-
-// s into the buffer from `at` on, byte for byte or, with `fold`, in upper case; the place after it.
-fn write(fold: bool, buf: &mut [u8], at: usize, s: &[u8]) -> usize
-    requires { at + length s.now ≤ length buf.old }
-    ensures { (result ≡ at + length s.now) × (take result buf.new ≡ take at buf.old ++ map (fold_of fold) s.now) }
-{
-    let mut i = 0;
-    while i < s.len() {
-        buf[at + i] = letter(fold, s[i]);
-        i += 1;
-    }
-    at + i
-}
+use ids::{IdColumn, find};
 
 // s into the buffer from `at` on; the place after it.
 pub fn put(buf: &mut [u8], at: usize, s: &[u8]) -> usize
     requires { at + length s.now ≤ length buf.old }
     ensures { (result ≡ at + length s.now) × (take result buf.new ≡ take at buf.old ++ s.now) }
 {
-    write(false, buf, at, s)
+    let end = at + s.len();
+    buf[at..end].copy_from_slice(s);
+    end
 }
 
 // The same with s in upper case.
@@ -33,7 +22,11 @@ pub fn upper_into(buf: &mut [u8], at: usize, s: &[u8]) -> usize
     requires { at + length s.now ≤ length buf.old }
     ensures { (result ≡ at + length s.now) × (take result buf.new ≡ take at buf.old ++ map upper_of s.now) }
 {
-    write(true, buf, at, s)
+    let end = at + s.len();
+    let part = &mut buf[at..end];
+    part.copy_from_slice(s);
+    part.make_ascii_uppercase();
+    end
 }
 
 // The row whose id is the four parts joined, of which some may be empty. No id is over 96 bytes, so
@@ -46,21 +39,21 @@ pub fn find_joined(
     b: &[u8],
     c: &[u8],
     d: &[u8],
-) -> Found
+) -> Option<usize>
     requires { GoodIds (id_of bytes.now words.now col) col.starts.n }
     ensures { result ≡ row_of (id_of bytes.now words.now col) col.starts.n (a.now ++ (b.now ++ (c.now ++ d.now))) }
 {
     if 96 < a.len() {
-        return Found::Nothing;
+        return None;
     }
     if 96 < b.len() {
-        return Found::Nothing;
+        return None;
     }
     if 96 < c.len() {
-        return Found::Nothing;
+        return None;
     }
     if 96 < d.len() {
-        return Found::Nothing;
+        return None;
     }
     let mut buf = [0u8; 384];
     let i = put(&mut buf, 0, a);

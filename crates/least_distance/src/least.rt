@@ -47,14 +47,11 @@ pub fn least_from(lat: &[f64], lon: &[f64], stop: Point, at: usize) -> f64
 {
     let c = cos(radians(stop.lat));
     let mut least = Least {
-        best: 1.0 / 0.0,
-        limit: 1.0 / 0.0,
+        best: f64::INFINITY,
+        limit: f64::INFINITY,
     };
-    let mut k = vertices(lat, lon);
-    while at < k {
-        k -= 1;
-        let left = k - at;
-        least = lesser(least, aside(lat, lon, stop, c, k), left);
+    for k in (at..vertices(lat, lon)).rev() {
+        least = lesser(least, aside(lat, lon, stop, c, k), k - at);
     }
     least.best
 }

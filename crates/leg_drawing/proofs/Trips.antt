@@ -1,4 +1,5 @@
 -- The points of the trip found: from stop to stop, or along its shape. Assumes nothing.
+use Rattle.std.specs.Prelude.{Option, Some}
 use Prim.Native.Nat.{ℕ}
 use mathlib.Core.Path.{◌≡◌}
 use mathlib.Core.List.{List}
@@ -6,14 +7,12 @@ use borrow.Author.Tests.{eq-eqb, ne_eqb}
 use lib.Ieee.{Float}
 use lib.ListN.{length}
 use Rattle.ids.specs.Pool.{cell_of, id_of}
-use Rattle.ids.specs.declared.lookup.Found.{Found}
-use Rattle.ids.specs.declared.lookup.Found.TheVariants.{At}
 use Rattle.ids.specs.declared.pool.Span.{Span}
 use Rattle.lengths.specs.Line.{line_of}
-use Rattle.measure.specs.Answer.{Answer}
+use Rattle.refusals.specs.Answer.{Answer}
 use Rattle.tables.specs.Pools.{Pools}
 use Rattle.tables.specs.Bounds.{chart_bounds}
-use Rattle.refusals.specs.Refuse.{refusal_of}
+use Rattle.verdicts.specs.Refuse.{refusal_of}
 use Rattle.tables.specs.declared.lent.LegAsked.{LegAsked}
 use Rattle.tables.specs.declared.lent.Tables.{Tables}
 use Rattle.geometry_checks.specs.Operations.{leg_causes}
@@ -25,7 +24,7 @@ use Rattle.leg_points.specs.Leg.{part_drawn, stops_drawn, leg_points}
 use Rattle.leg_drawing.specs.Trip.{trip_points, found_points, asked_points}
 use Rattle.point_columns.proofs.Rooms.{Right}
 
-module _ (bytes words : List ℕ) (reals : List Float) (t : Tables) (from to : ℕ) {found : Found} (trip : ℕ) (f : found ≡ At trip)
+module _ (bytes words : List ℕ) (reals : List Float) (t : Tables) (from to : ℕ) {found : Option ℕ} (trip : ℕ) (f : found ≡ Some trip)
     {first count : ℕ} (a : first ≡ cell_of words t.trips.first trip) (n : count ≡ cell_of words t.trips.count trip)
     {points : Span} (s : points ≡ trip_span bytes words t.trips t.shapes trip)
     {lats lons : List Float} (y : lats ≡ shape_column reals t.points.lat points) (x : lons ≡ shape_column reals t.points.lon points) where
@@ -41,7 +40,7 @@ module _ (bytes words : List ℕ) (reals : List Float) (t : Tables) (from to : �
 
 -- the operation, where nothing is refused
 module _ (p : Pools) (t : Tables) (l : LegAsked) (from to : ℕ) (lat lon : List Float) where
-  pub asked : refusal_of p (leg_causes chart_bounds t l) ≡ 0 → {found : Found} → found ≡ trip_of p.bytes p.words t.tripkeys (id_of p.bytes p.words l.trip 0) →
+  pub asked : refusal_of p (leg_causes chart_bounds t l) ≡ 0 → {found : Option ℕ} → found ≡ trip_of p.bytes p.words t.tripkeys (id_of p.bytes p.words l.trip 0) →
       {r : Answer ℕ} {lat' lon' : List Float} → Right 0 (found_points p.bytes p.words p.reals t from to found) lat lon r lat' lon' →
       Right (refusal_of p (leg_causes chart_bounds t l)) (asked_points p t l from to) lat lon r lat' lon'
   unfolding asked_points

@@ -1,8 +1,6 @@
 -- The points of a leg of a trip of the lent tables.
-use Rattle.std.specs.Prelude.{ℕ, List, [], Float}
+use Rattle.std.specs.Prelude.{ℕ, List, [], Float, Option, Some, None}
 use Rattle.ids.specs.Pool.{cell_of, id_of}
-use Rattle.ids.specs.declared.lookup.Found.{Found}
-use Rattle.ids.specs.declared.lookup.Found.TheVariants.{At, Nothing}
 use Rattle.lengths.specs.declared.line.Point.{Point}
 use Rattle.tables.specs.Pools.{Pools}
 use Rattle.tables.specs.declared.lent.LegAsked.{LegAsked}
@@ -21,9 +19,9 @@ trip_points bytes words reals t from to trip =
     (positions_from (row_position bytes words reals t.stops t.times) (cell_of words t.trips.first trip) count) (ends_of count from to)
 
 -- of the trip found; none where there is none
-abbrev pub found_points : List ℕ → List ℕ → List Float → Tables → ℕ → ℕ → Found → List Point
-found_points bytes words reals t from to (At trip) = trip_points bytes words reals t from to trip
-found_points bytes words reals t from to Nothing = []
+abbrev pub found_points : List ℕ → List ℕ → List Float → Tables → ℕ → ℕ → Option ℕ → List Point
+found_points bytes words reals t from to (Some trip) = trip_points bytes words reals t from to trip
+found_points bytes words reals t from to None = []
 
 -- of the trip asked of
 unfoldable pub asked_points : Pools → Tables → LegAsked → ℕ → ℕ → List Point

@@ -2,7 +2,7 @@
 ghost use Rattle.std.specs.Prelude.{◌≡◌, length};
 ghost use Rattle.tables.specs.Pools.{pools};
 ghost use Rattle.tables.specs.Bounds.{chart_bounds};
-ghost use Rattle.refusals.specs.Refuse.{refusal_of};
+ghost use Rattle.verdicts.specs.Refuse.{refusal_of};
 ghost use Rattle.geometry_checks.specs.Operations.{leg_causes};
 ghost use Rattle.trip_rows.specs.Rows.{row_position};
 ghost use Rattle.trip_vertices.specs.Vertices.{positions_from};
@@ -12,12 +12,12 @@ ghost use Rattle.leg_points.specs.Leg.{stops_drawn};
 ghost use Rattle.leg_drawing.specs.Trip.{found_points, asked_points};
 
 use geometry_checks::check_leg;
-use ids::Found;
 use leg_points::draw_stops;
 use lengths::vertices;
 use point_columns::Drawing;
+use refusals::number_or_zero;
 use shape_drawing::along_shape;
-use tables::{Bounds, LegAsked, StopTimes, Stops, Tables};
+use tables::{Bounds, LegAsked, Lent, StopTimes, Stops, Tables};
 use trip_ids::by_key;
 use trip_rows::{shape_column, trip_span};
 
@@ -71,7 +71,7 @@ fn draw(
     words: &[u32],
     reals: &[f64],
     t: Tables,
-    found: Found,
+    found: Option<usize>,
     from: u32,
     to: u32,
     lat: &mut [f64],
@@ -82,7 +82,7 @@ fn draw(
     ensures lat_after { lat.new ≡ lat_after 0 (found_points bytes.now words.now reals.now t from to found) lat.old lon.old }
     ensures lon_after { lon.new ≡ lon_after 0 (found_points bytes.now words.now reals.now t from to found) lat.old lon.old }
 {
-    let Found::At(trip) = found else {
+    let Some(trip) = found else {
         return Drawing::Points(0);
     };
     let stops = t.stops;
@@ -129,7 +129,14 @@ pub fn leg_geometry(
     if lat.len() != lon.len() {
         return Drawing::Refused(1);
     }
-    let refusal = check_leg(bytes, words, times, reals, dists, Bounds::chart(), t, l);
+    let lent = Lent {
+        bytes,
+        words,
+        times,
+        reals,
+        dists,
+    };
+    let refusal = number_or_zero(&check_leg(&lent, Bounds::chart(), t, l));
     if refusal != 0 {
         return Drawing::Refused(refusal);
     }

@@ -1,4 +1,6 @@
 -- The position that a walk gives is that of its place, bit for bit, at every fraction, for every length, NaN included. Assumes nothing.
+use Rattle.std.specs.Prelude.{Option}
+use Rattle.unit_scales.specs.declared.metres.Affine.{Affine}
 use Prim.Native.Nat.{ℕ}
 use mathlib.Core.Path.{◌≡◌, refl}
 use mathlib.Core.Logic.{◌⊎◌, inl, inr}
@@ -8,7 +10,6 @@ use lib.Dec.{T}
 use lib.Ieee.{Float, binary64, le, fits}
 use Rattle.floats.specs.Number.{nought, one}
 use Rattle.lengths.specs.declared.line.Point.{Point}
-use Rattle.unit_scales.specs.declared.metres.Calibrated.{Calibrated}
 use Rattle.stretches.specs.Drawing.{draw_of, last_of}
 use Rattle.stretches.specs.declared.spot.Spot.{Spot}
 use Rattle.stretches.specs.declared.spot.Spot.TheVariants.{First, Stretch, Straight, NoStretch}
@@ -18,7 +19,6 @@ use Rattle.legs.specs.Place.{place_of}
 use Rattle.legs.specs.Walk.{start_of, end_of, inside_leg, walk_of}
 use Rattle.leg_order.specs.Position.{coordinates, position_of}
 use Rattle.leg_order.specs.Granted.{Chained}
-use Rattle.paths.specs.declared.path.Mark.{Mark}
 use Rattle.paths.specs.declared.path.Path.{Path}
 use Rattle.paths.specs.declared.path.Path.TheVariants.{Straight as Path·straight}
 use Rattle.legs.specs.declared.walk.Walked.{Walked}
@@ -56,7 +56,7 @@ module _ (k : ℕ) (shape chain : List Point) (from to : Point) where
       go false false h = h tt tt
 
   -- on the path of a trip that is found
-  pub walk_agrees : (calibrated : Calibrated) (d₀ d₁ : Mark) → Chained from to chain → (f : Float) → T (fits binary64 f) →
+  pub walk_agrees : (calibrated : Option Affine) (d₀ d₁ : Option Float) → Chained from to chain → (f : Float) → T (fits binary64 f) →
       let path = path_of shape calibrated d₀ d₁ chain from to in
       coordinates (walk_of k shape chain from to path f).drawn ≡ position_of shape chain from to path (walk_of k shape chain from to path f).place
   walk_agrees calibrated d₀ d₁ c f F = agrees (path_chosen shape chain from to c calibrated d₀ d₁) f F

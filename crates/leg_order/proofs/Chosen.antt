@@ -1,4 +1,6 @@
 -- Which paths can be chosen, and what holds of each. Assumes nothing.
+use Rattle.std.specs.Prelude.{Option, Some, None}
+use Rattle.unit_scales.specs.declared.metres.Affine.{Affine}
 use Prim.Native.Nat.{ℕ, suc, ◌+◌, ◌<◌, ◌≤◌}
 use native.Mathlib.Omega.{arith}
 use mathlib.Core.Path.{◌≡◌, refl, sym, subst}
@@ -11,8 +13,6 @@ use lib.ListN.{length}
 use Rattle.floats.specs.Number.{one}
 use Rattle.ieee.specs.Number.{abs_of}
 use Rattle.lengths.specs.declared.line.Point.{Point}
-use Rattle.unit_scales.specs.declared.metres.Calibrated.{Calibrated}
-use Rattle.unit_scales.specs.declared.metres.Calibrated.TheVariants.{By, Nothing as Uncalibrated}
 use Rattle.line_parts.specs.Part.{at, stretches, whole_of}
 use Rattle.line_parts.specs.declared.part.Part.{Part}
 use Rattle.stretches.specs.declared.spot.Spot.TheVariants.{Straight}
@@ -20,8 +20,6 @@ use Rattle.ways.specs.declared.way.Way.{Way}
 use Rattle.ways.specs.declared.way.Way.TheVariants.{With, Against}
 use Rattle.spans.specs.Span.{half, spread, span_of, feed_metres}
 use Rattle.spans.specs.declared.span.Span.{Span}
-use Rattle.spans.specs.declared.span.Spanned.{Spanned}
-use Rattle.spans.specs.declared.span.Spanned.TheVariants.{Over, Short}
 use Rattle.nearest.specs.Nearest.{largest, degrees_of, nearest_from, nearest_of}
 use Rattle.routes.specs.Route.{route_of, along_of}
 use Rattle.routes.specs.declared.route.Route.{Route}
@@ -35,8 +33,6 @@ use Rattle.along_order.proofs.Along.{Inside, never_earlier_on_line, never_earlie
 use Rattle.along_order.proofs.ByDistance.{never_earlier_by_distance}
 use Rattle.paths.specs.Path.{feed_span, over_span, over_route, over_chain, path_of, path_line, path_part, path_way, spot_of}
 use Rattle.leg_order.specs.Granted.{Chained, Granted}
-use Rattle.paths.specs.declared.path.Mark.{Mark}
-use Rattle.paths.specs.declared.path.Mark.TheVariants.{At, Nothing}
 use Rattle.paths.specs.declared.path.Path.{Path}
 use Rattle.paths.specs.declared.path.Path.TheVariants.{ByDistance, Polyline, Straight as Path·straight}
 use Rattle.leg_order.proofs.Spots.{OnPart, over_on_part, sailed_on_part, chain_on_part}
@@ -44,7 +40,7 @@ use Rattle.leg_order.proofs.Spots.{OnPart, over_on_part, sailed_on_part, chain_o
 -- ---- the four kinds
 
 pub data Chosen (shape chain : List Point) (from to : Point) : Path → Type 0 where
-  spanned : (d₀ d₁ : Float) (span : Span) → span_of d₀ d₁ ≡ Over span → Chosen shape chain from to (ByDistance span)
+  spanned : (d₀ d₁ : Float) (span : Span) → span_of d₀ d₁ ≡ Some span → Chosen shape chain from to (ByDistance span)
   routed : (route : Route) (way : Way) → route_between shape from to ≡ Routed·over route way → Chosen shape chain from to (Polyline route way)
   chained : Chained from to chain → Chosen shape chain from to (over_chain chain)
   straight : Chosen shape chain from to Path·straight
@@ -54,20 +50,20 @@ module _ (shape chain : List Point) (from to : Point) (c : Chained from to chain
   over_route_lem (Routed·over route way) e = routed route way e
   over_route_lem Routed·nothing e = chained c
 
-  over_span_lem : (d₀ d₁ : Float) (s : Spanned) (other : Path) → span_of d₀ d₁ ≡ s → Chosen shape chain from to other → Chosen shape chain from to (over_span s other)
-  over_span_lem d₀ d₁ (Over span) other e k = spanned d₀ d₁ span e
-  over_span_lem d₀ d₁ Short other e k = k
+  over_span_lem : (d₀ d₁ : Float) (s : Option Span) (other : Path) → span_of d₀ d₁ ≡ s → Chosen shape chain from to other → Chosen shape chain from to (over_span s other)
+  over_span_lem d₀ d₁ (Some span) other e k = spanned d₀ d₁ span e
+  over_span_lem d₀ d₁ None other e k = k
 
-  over_feed : (calibrated : Calibrated) (d₀ d₁ : Mark) (other : Path) → Chosen shape chain from to other → Chosen shape chain from to (over_span (feed_span calibrated d₀ d₁) other)
-  over_feed Uncalibrated d₀ d₁ other k = k
-  over_feed (By c) Nothing d₁ other k = k
-  over_feed (By c) (At d₀) Nothing other k = k
-  over_feed (By c) (At d₀) (At d₁) other k =
+  over_feed : (calibrated : Option Affine) (d₀ d₁ : Option Float) (other : Path) → Chosen shape chain from to other → Chosen shape chain from to (over_span (feed_span calibrated d₀ d₁) other)
+  over_feed None d₀ d₁ other k = k
+  over_feed (Some c) None d₁ other k = k
+  over_feed (Some c) (Some d₀) None other k = k
+  over_feed (Some c) (Some d₀) (Some d₁) other k =
       let m₀ = feed_metres c.a c.b d₀ in
       let m₁ = feed_metres c.a c.b d₁ in
       over_span_lem m₀ m₁ (span_of m₀ m₁) other refl k
 
-  pub path_chosen : (calibrated : Calibrated) (d₀ d₁ : Mark) → Chosen shape chain from to (path_of shape calibrated d₀ d₁ chain from to)
+  pub path_chosen : (calibrated : Option Affine) (d₀ d₁ : Option Float) → Chosen shape chain from to (path_of shape calibrated d₀ d₁ chain from to)
   unfolding path_of
   path_chosen calibrated d₀ d₁ = go (ltb (length shape) 2)
     where
@@ -81,7 +77,7 @@ record Both (d₀ d₁ : Float) : Type 0 where
   here : Distance d₀
   there : Distance d₁
 
-span_distances : (d₀ d₁ : Float) (span : Span) → span_of d₀ d₁ ≡ Over span → Distance span.lo → Distance span.hi → Both d₀ d₁
+span_distances : (d₀ d₁ : Float) (span : Span) → span_of d₀ d₁ ≡ Some span → Distance span.lo → Distance span.hi → Both d₀ d₁
 unfolding span_of spread
 span_distances d₀ d₁ span e L H = go (le d₀ d₁) (lt (abs_of (sub binary64 d₁ d₀)) half) (lt (abs_of (sub binary64 d₀ d₁)) half) e
   where
@@ -97,7 +93,7 @@ span_distances d₀ d₁ span e L H = go (le d₀ d₁) (lt (abs_of (sub binary6
     hi_of : (s : Span) → s ≡ span → Distance s.hi
     hi_of s q = subst (λ (z : Span). Distance z.hi) (sym q) H
 
-    go : (a b c : Bool) → cond a (cond b Short (Over onward)) (cond c Short (Over back)) ≡ Over span → Both d₀ d₁
+    go : (a b c : Bool) → cond a (cond b None (Some onward)) (cond c None (Some back)) ≡ Some span → Both d₀ d₁
     go true true c e = absurd (true≢false (cc))
     go true false c e = let q : onward ≡ span = cc in record { here = lo_of onward q; there = hi_of onward q }
     go false b true e = absurd (true≢false (cc))

@@ -1,4 +1,6 @@
 -- Along a leg a larger fraction gives no earlier place. Assumes nothing.
+use Rattle.std.specs.Prelude.{Option}
+use Rattle.unit_scales.specs.declared.metres.Affine.{Affine}
 use Prim.Native.Nat.{ℕ, ◌*◌, ◌-◌, ◌<◌, ◌≤◌}
 use native.Mathlib.Omega.{arith}
 use mathlib.Core.Path.{◌≡◌, refl, sym}
@@ -11,7 +13,6 @@ use lib.ListN.{length}
 use Rattle.floats.specs.Number.{nought, one}
 use Rattle.floats.proofs.Order.{trans_le}
 use Rattle.lengths.specs.declared.line.Point.{Point}
-use Rattle.unit_scales.specs.declared.metres.Calibrated.{Calibrated}
 use Rattle.line_parts.specs.Part.{stretches}
 use Rattle.line_parts.specs.declared.part.Part.{Part}
 use Rattle.stretches.specs.declared.spot.Spot.{Spot}
@@ -25,7 +26,6 @@ use Rattle.legs.specs.Place.{place_of}
 use Rattle.legs.specs.Walk.{start_of, end_of, inside_leg, walk_of}
 use Rattle.leg_order.specs.Order.{turn_of, Along, InLeg, NoEarlier}
 use Rattle.leg_order.specs.Granted.{Chained, Granted}
-use Rattle.paths.specs.declared.path.Mark.{Mark}
 use Rattle.paths.specs.declared.path.Path.{Path}
 use Rattle.paths.specs.declared.path.Path.TheVariants.{Straight as Path·straight}
 use Rattle.paths.specs.declared.path.Line.{Line}
@@ -122,7 +122,7 @@ module _ (k : ℕ) (shape chain : List Point) (from to : Point) where
       go false false false false p q r = inr (rw (turn f, turn g) refl, r tt tt tt tt)
 
   -- on the path of a trip that is found
-  pub walk_never_earlier : (calibrated : Calibrated) (d₀ d₁ : Mark) → Chained from to chain → length shape ≤ 8192 → length chain ≤ 1000002 →
+  pub walk_never_earlier : (calibrated : Option Affine) (d₀ d₁ : Option Float) → Chained from to chain → length shape ≤ 8192 → length chain ≤ 1000002 →
       let path = path_of shape calibrated d₀ d₁ chain from to in
       Granted shape chain path → (f g : Float) → T (fits binary64 f) → T (fits binary64 g) → T (le f g) →
       NoEarlier (walk_of k shape chain from to path f).place (walk_of k shape chain from to path g).place

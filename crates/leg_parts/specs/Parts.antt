@@ -1,9 +1,7 @@
 -- The parts of a leg: the rows of its two stops, the part of a line between two vertices, and whether two points are apart. Definitions only.
-use Rattle.std.specs.Prelude.{ℕ, ◌-◌, min, max, Bool, cond, ◌||◌, List, ltb}
+use Rattle.std.specs.Prelude.{ℕ, ◌-◌, min, max, Bool, cond, ◌||◌, List, ltb, Option, Some, None}
 use Rattle.std.specs.Float.{binary64}
 use Rattle.std.specs.Float.Ieee.{sub, lt}
-use Rattle.ids.specs.declared.lookup.Found.{Found}
-use Rattle.ids.specs.declared.lookup.Found.TheVariants.{At, Nothing}
 use Rattle.ieee.specs.Number.{abs_of}
 use Rattle.lengths.specs.declared.line.Point.{Point}
 use Rattle.line_parts.specs.Part.{whole_of}
@@ -16,10 +14,10 @@ unfoldable pub ends_of : ℕ → ℕ → ℕ → Ends
 ends_of count from to = let a = min from (count - 1) in let b = min to (count - 1) in record { board = min a b; alight = max a b }
 
 -- the vertices from the one to the other; the whole line where one is not there, and where they are the same
-abbrev pub part_between : List Point → Found → Found → Part
-part_between line (At i) (At j) = cond (ltb i j) (record { first = i; last = j }) (whole_of line)
-part_between line (At i) Nothing = whole_of line
-part_between line Nothing other = whole_of line
+abbrev pub part_between : List Point → Option ℕ → Option ℕ → Part
+part_between line (Some i) (Some j) = cond (ltb i j) (record { first = i; last = j }) (whole_of line)
+part_between line (Some i) None = whole_of line
+part_between line None other = whole_of line
 
 -- two points differ by more than 1e-9 in latitude or in longitude; NaN does not
 unfoldable pub apart : Point → Point → Bool

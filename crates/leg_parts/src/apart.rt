@@ -5,30 +5,20 @@ ghost use Rattle.leg_parts.specs.Parts.{apart};
 
 use ieee::abs;
 use lengths::Point;
-use projection::Position;
 
 // Whether two points differ by more than 1e-9 in latitude or in longitude; NaN does not.
 fn is_apart(q: Point, p: Point) -> bool
     ensures { result ≡ apart q p }
 {
-    if abs(q.lat - p.lat) > 1e-9 {
-        return true;
-    }
-    abs(q.lon - p.lon) > 1e-9
+    abs(q.lat - p.lat) > 1e-9 || abs(q.lon - p.lon) > 1e-9
 }
 
-// What is drawn of a stop after the last point drawn.
-pub fn next(last: Position, stop: Position) -> Position
+// What is drawn of a stop after the last point drawn. `repeated_points::next` has another test: a closure in its place would need clauses of its own, longer than this match.
+pub fn next(last: Option<Point>, stop: Option<Point>) -> Option<Point>
     ensures { result ≡ next_of apart last stop }
 {
-    let Position::Known(p) = stop else {
-        return Position::Missing;
-    };
-    let Position::Known(q) = last else {
-        return stop;
-    };
-    if is_apart(q, p) {
-        return stop;
+    match (last, stop) {
+        (Some(q), Some(p)) if !is_apart(q, p) => None,
+        _ => stop,
     }
-    Position::Missing
 }

@@ -4,32 +4,32 @@ ghost use Rattle.leg_paths.specs.Leg.{leg_span, leg_rows};
 
 use chain_rows::{Chain, chain_of};
 use courses::Course;
-use ids::{Found, Span};
+use ids::Span;
 use paths::End;
 use trip_rows::trip_span;
 
 // The points of its trip's shape.
-pub fn leg_span(bytes: &[u8], words: &[u32], c: Course, trip: Found) -> Span
+pub fn leg_span(bytes: &[u8], words: &[u32], c: Course, trip: Option<usize>) -> Span
     ensures { result ≡ leg_span bytes.now words.now c trip }
 {
     let trips = c.trips;
     let shapes = c.shapes;
     match trip {
-        Found::At(trip) => trip_span(bytes, words, trips, shapes, trip),
-        Found::Nothing => Span { at: 0, n: 0 },
+        Some(trip) => trip_span(bytes, words, trips, shapes, trip),
+        None => Span { at: 0, n: 0 },
     }
 }
 
 // The rows and ends of its chain.
-pub fn leg_rows(words: &[u32], c: Course, trip: Found, from: End, to: End) -> Chain
+pub fn leg_rows(words: &[u32], c: Course, trip: Option<usize>, from: End, to: End) -> Chain
     ensures { result ≡ leg_rows words.now c trip from to }
 {
     let trips = c.trips;
     let a = from.at;
     let b = to.at;
     match trip {
-        Found::At(trip) => chain_of(words, trips, trip, from.sequence, a, to.sequence, b),
-        Found::Nothing => Chain {
+        Some(trip) => chain_of(words, trips, trip, from.sequence, a, to.sequence, b),
+        None => Chain {
             first: 0,
             count: 0,
             lo: 0,

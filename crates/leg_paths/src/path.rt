@@ -10,11 +10,10 @@ ghost use Rattle.leg_paths.specs.Leg.{leg_count, leg_stops, trip_spanned, trip_p
 use crate::leg::{leg_rows, leg_span};
 use chains::chain_route;
 use courses::Course;
-use ids::Found;
 use lengths::vertices;
 use paths::{End, Path, feed_span};
 use seq_distances::seq_dist;
-use spans::Spanned;
+use spans::Span;
 use stop_routes::{Routed, route_between};
 use trip_rows::shape_column;
 use trip_samples::trip_shape_dist_affine;
@@ -25,7 +24,7 @@ fn chain_path(
     words: &[u32],
     reals: &[f64],
     c: Course,
-    trip: Found,
+    trip: Option<usize>,
     from: End,
     to: End,
 ) -> Path
@@ -44,7 +43,7 @@ fn route_path(
     words: &[u32],
     reals: &[f64],
     c: Course,
-    trip: Found,
+    trip: Option<usize>,
     from: End,
     to: End,
     lat: &[f64],
@@ -69,7 +68,7 @@ fn trip_spanned(
     trip: usize,
     from: End,
     to: End,
-) -> Spanned
+) -> Option<Span>
     ensures { result ≡ trip_spanned bytes.now words.now reals.now dists.now c trip from to }
 {
     feed_span(
@@ -95,7 +94,7 @@ fn trip_path(
 {
     let lats = c.points.lat;
     let lons = c.points.lon;
-    let found = Found::At(trip);
+    let found = Some(trip);
     let span = leg_span(bytes, words, c, found);
     let lat = shape_column(reals, lats, span);
     let lon = shape_column(reals, lons, span);
@@ -103,8 +102,8 @@ fn trip_path(
         return chain_path(bytes, words, reals, c, found, from, to);
     }
     match trip_spanned(bytes, words, reals, dists, c, trip, from, to) {
-        Spanned::Over(span) => Path::ByDistance(span),
-        Spanned::Short => route_path(bytes, words, reals, c, found, from, to, lat, lon),
+        Some(span) => Path::ByDistance(span),
+        None => route_path(bytes, words, reals, c, found, from, to, lat, lon),
     }
 }
 
@@ -115,14 +114,14 @@ pub fn path_of(
     reals: &[f64],
     dists: &[f32],
     c: Course,
-    trip: Found,
+    trip: Option<usize>,
     from: End,
     to: End,
 ) -> Path
     requires { leg_count words.now c trip ≤ 1000000 }
     ensures { result ≡ leg_path bytes.now words.now reals.now dists.now c trip from to }
 {
-    let Found::At(trip) = trip else {
+    let Some(trip) = trip else {
         return Path::Straight;
     };
     trip_path(bytes, words, reals, dists, c, trip, from, to)

@@ -9,7 +9,7 @@ ghost use Rattle.leg_parts.specs.Parts.{ends_of};
 
 use leg_parts::{between, leg_ends};
 use line_parts::{Part, whole};
-use projection::{Cursor, Position};
+use projection::Cursor;
 use tables::{StopTimes, Stops};
 use trip_rows::row_position;
 
@@ -30,21 +30,12 @@ fn run(
     ensures { result ≡ (cursor_after (line_of lat.now lon.now) (record { at = at }) (positions_from (row_position bytes.now words.now reals.now stops calls) (first + skip) n)).at }
 {
     let from = first as usize + skip as usize;
-    let rows = n as usize;
-    let mut vertex = at;
-    let mut k = 0;
-    while k < rows {
-        let cursor = Cursor { at: vertex };
-        let passed = cursor.pass(
-            lat,
-            lon,
-            row_position(bytes, words, reals, stops, calls, from + k),
-        );
-        let next = passed.cursor;
-        vertex = next.at;
-        k += 1;
+    let mut cursor = Cursor { at };
+    for k in 0..n as usize {
+        let stop = row_position(bytes, words, reals, stops, calls, from + k);
+        cursor = cursor.pass(lat, lon, stop).cursor;
     }
-    vertex
+    cursor.at
 }
 
 // From the vertex of the one stop to that of the other. The whole shape where one of them has no position, and where both have the same vertex.
@@ -69,7 +60,7 @@ pub fn part(
     let leg = leg_ends(count, from, to);
     let board = leg.board;
     let alight = leg.alight;
-    let Position::Known(_) = row_position(
+    let Some(_) = row_position(
         bytes,
         words,
         reals,
@@ -79,7 +70,7 @@ pub fn part(
     ) else {
         return whole(lat, lon);
     };
-    let Position::Known(_) = row_position(
+    let Some(_) = row_position(
         bytes,
         words,
         reals,

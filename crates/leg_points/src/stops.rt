@@ -8,7 +8,6 @@ ghost use Rattle.leg_parts.specs.Parts.{ends_of};
 
 use leg_parts::{leg_ends, next};
 use point_columns::{later, put};
-use projection::Position;
 use tables::{StopTimes, Stops};
 use trip_rows::row_position;
 
@@ -38,17 +37,15 @@ pub fn draw_stops(
     let alight = leg.alight;
     let row = first as usize + board as usize;
     let rows = (alight - board) as usize + 1;
-    let mut last = Position::Missing;
+    let mut last = None;
     let mut at = 0;
-    let mut k = 0;
-    while k < rows {
+    for k in 0..rows {
         let drawn = next(
             last,
             row_position(bytes, words, reals, stops, calls, row + k),
         );
         at = put(lat, lon, at, drawn);
         last = later(last, drawn);
-        k += 1;
     }
     at
 }

@@ -19,16 +19,15 @@ pub fn metres(a: Point, b: Point) -> f64
 }
 
 // How many vertices a line has: as many as both columns have rows.
+#[tactic(auto, using(crate::proofs::Rows::vertex_count))]
 pub fn vertices(lat: &[f64], lon: &[f64]) -> usize
     ensures { result ≡ length (line_of lat.now lon.now) }
 {
-    if lat.len() < lon.len() {
-        return lat.len();
-    }
-    lon.len()
+    lat.len().min(lon.len())
 }
 
 // Vertex k of a line.
+#[tactic(auto, using(crate::proofs::Rows::vertex_count, crate::proofs::Rows::vertex_at))]
 pub fn vertex(lat: &[f64], lon: &[f64], k: usize) -> Point
     requires { k < length (line_of lat.now lon.now) }
     ensures { result ≡ get_or (line_of lat.now lon.now) k nowhere }

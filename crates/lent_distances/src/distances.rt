@@ -3,28 +3,28 @@ ghost use Rattle.std.specs.Prelude.{◌≡◌};
 ghost use Rattle.lengths.specs.Line.{line_of};
 ghost use Rattle.lent_distances.specs.Distances.{by_dist_lent, by_feed_lent};
 
-use stretches::Interpolated;
+use stretches::Drawn;
 
-pub fn between_distances(lat: &[f64], lon: &[f64], d: &[f32], x: &[f64]) -> Interpolated
+pub fn between_distances(lat: &[f64], lon: &[f64], d: &[f32], x: &[f64]) -> Option<Drawn>
     ensures { result ≡ by_dist_lent (line_of lat.now lon.now) d.now x.now }
 {
     if d.len() < 2 {
-        return Interpolated::Nothing;
+        return None;
     }
     if x.len() < 1 {
-        return Interpolated::Nothing;
+        return None;
     }
     by_distance::interpolate_shape_by_dist(lat, lon, d[0], d[1], x[0])
 }
 
-pub fn between_feed_distances(lat: &[f64], lon: &[f64], d: &[f32], x: &[f64]) -> Interpolated
+pub fn between_feed_distances(lat: &[f64], lon: &[f64], d: &[f32], x: &[f64]) -> Option<Drawn>
     ensures { result ≡ by_feed_lent (line_of lat.now lon.now) d.now x.now }
 {
     if d.len() < 2 {
-        return Interpolated::Nothing;
+        return None;
     }
     if x.len() < 3 {
-        return Interpolated::Nothing;
+        return None;
     }
     by_distance::interpolate_shape_by_feed_dist(lat, lon, d[0], d[1], x[0], x[1], x[2])
 }

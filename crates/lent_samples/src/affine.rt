@@ -3,21 +3,22 @@ ghost use Rattle.std.specs.Prelude.{◌≡◌};
 ghost use Rattle.lent_samples.specs.Samples.{lent_affine};
 
 use calibration::samples_affine;
-use tables::{Samples, dists_of, reals_of};
-use unit_scales::Calibrated;
+use tables::{Samples, cut};
+use unit_scales::Affine;
 
 // Of samples that are not refused.
-pub fn lent_affine(reals: &[f64], dists: &[f32], s: Samples) -> Calibrated
+#[tactic(auto, unfolding(crate::specs::Samples::lent_affine))]
+pub fn lent_affine(reals: &[f64], dists: &[f32], s: Samples) -> Option<Affine>
     ensures { result ≡ lent_affine reals.now dists.now s }
 {
     let line = s.line;
     let at = s.at;
     let dist = s.dist;
     samples_affine(
-        reals_of(reals, line.lat),
-        reals_of(reals, line.lon),
-        reals_of(reals, at.lat),
-        reals_of(reals, at.lon),
-        dists_of(dists, dist),
+        cut(reals, line.lat),
+        cut(reals, line.lon),
+        cut(reals, at.lat),
+        cut(reals, at.lon),
+        cut(dists, dist),
     )
 }

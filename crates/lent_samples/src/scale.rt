@@ -1,6 +1,6 @@
 // The unit that the first ratio is near.
 ghost use Rattle.std.specs.Prelude.{◌≡◌};
-ghost use Rattle.measure.specs.Answer.{given};
+ghost use Rattle.refusals.specs.Answer.{given};
 ghost use Rattle.line_answers.specs.Answers.{snapped_answer};
 ghost use Rattle.lent_samples.specs.Samples.{first_scale};
 

@@ -1,17 +1,15 @@
 -- What the operations on a line and on stops answer, in document 01's terms: a refusal's number alone, or the value. Definitions only.
-use Rattle.std.specs.Prelude.{ℕ, Float}
-use Rattle.measure.specs.Answer.{Answer, refused, given}
-use Rattle.unit_scales.specs.declared.metres.Calibrated.{Calibrated}
-use Rattle.unit_scales.specs.declared.metres.Calibrated.TheVariants.{By, Nothing}
-use Rattle.stretches.specs.declared.drawing.Interpolated.{Interpolated}
-use Rattle.stretches.specs.declared.drawing.Interpolated.TheVariants.{At, Nothing as Nowhere}
+use Rattle.unit_scales.specs.declared.metres.Affine.{Affine}
+use Rattle.std.specs.Prelude.{ℕ, Float, Option, Some, None}
+use Rattle.refusals.specs.Answer.{Answer, refused, given}
 use Rattle.projection.specs.declared.cursor.Step.{Step}
+use Rattle.stretches.specs.declared.drawing.Drawn.{Drawn}
 use Rattle.line_answers.specs.declared.metres.Calibration.{Calibration}
 use Rattle.line_answers.specs.declared.metres.Calibration.TheVariants.{By as Known, Nothing as Unknown, Refused as Calibration·refused}
 use Rattle.line_answers.specs.declared.scale.Snapped.{Snapped}
 use Rattle.line_answers.specs.declared.scale.Snapped.TheVariants.{Scale, Nothing as NoRatio, Refused as Snapped·refused}
 use Rattle.line_answers.specs.declared.position.Interpolation.{Interpolation}
-use Rattle.line_answers.specs.declared.position.Interpolation.TheVariants.{At as Drawn, Nothing as NoAnswer, Refused as Interpolation·refused}
+use Rattle.line_answers.specs.declared.position.Interpolation.TheVariants.{At as Placed, Nothing as NoAnswer, Refused as Interpolation·refused}
 use Rattle.line_answers.specs.declared.step.Stepped.{Stepped}
 use Rattle.line_answers.specs.declared.step.Stepped.TheVariants.{To, Refused as Stepped·refused}
 use Rattle.line_answers.specs.declared.trip.Projected.{Projected}
@@ -30,14 +28,14 @@ snapped_answer (Scale x) = given (one x)
 snapped_answer NoRatio = given none
 snapped_answer (Snapped·refused n) = refused n
 
-abbrev pub calibration_answer : Calibration → Answer Calibrated
-calibration_answer (Known f) = given (By f)
-calibration_answer Unknown = given Nothing
+abbrev pub calibration_answer : Calibration → Answer (Option Affine)
+calibration_answer (Known f) = given (Some f)
+calibration_answer Unknown = given None
 calibration_answer (Calibration·refused n) = refused n
 
-abbrev pub interpolation_answer : Interpolation → Answer Interpolated
-interpolation_answer (Drawn d) = given (At d)
-interpolation_answer NoAnswer = given Nowhere
+abbrev pub interpolation_answer : Interpolation → Answer (Option Drawn)
+interpolation_answer (Placed d) = given (Some d)
+interpolation_answer NoAnswer = given None
 interpolation_answer (Interpolation·refused n) = refused n
 
 abbrev pub step_answer : Stepped → Answer Step

@@ -1,6 +1,6 @@
 // What backfill answers, and its refusal's number.
 ghost use Rattle.std.specs.Prelude.{◌≡◌};
-ghost use Rattle.measure.specs.Answer.{number_of};
+ghost use Rattle.refusals.specs.Answer.{number_of};
 ghost use Rattle.line_answers.specs.Answers.{backfill_answer};
 
 // What backfill answers.

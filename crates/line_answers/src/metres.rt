@@ -1,9 +1,9 @@
 // The metres that samples' distances stand for.
 ghost use Rattle.std.specs.Prelude.{◌≡◌};
-ghost use Rattle.measure.specs.Answer.{given};
+ghost use Rattle.refusals.specs.Answer.{given};
 ghost use Rattle.line_answers.specs.Answers.{calibration_answer};
 
-use unit_scales::{Affine, Calibrated};
+use unit_scales::Affine;
 
 // What `shape_dist_affine` answers.
 #[derive(Clone, Copy)]
@@ -16,11 +16,11 @@ pub enum Calibration {
 }
 
 // Where nothing is refused.
-pub fn metres_answer(calibrated: Calibrated) -> Calibration
+pub fn metres_answer(calibrated: Option<Affine>) -> Calibration
     ensures { calibration_answer result ≡ given calibrated }
 {
     match calibrated {
-        Calibrated::By(affine) => Calibration::By(affine),
-        Calibrated::Nothing => Calibration::Nothing,
+        Some(affine) => Calibration::By(affine),
+        None => Calibration::Nothing,
     }
 }

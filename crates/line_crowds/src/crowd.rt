@@ -13,10 +13,7 @@ use trip_fits::Plan;
 fn is_beside(k: usize, b: usize, a: Fit, fit: Fit) -> bool
     ensures { result ≡ (not (eqb k b) && near a fit) }
 {
-    if k == b {
-        return false;
-    }
-    are_near(a, fit)
+    k != b && are_near(a, fit)
 }
 
 // Whether another row of the line is within two minutes of row b.
@@ -37,16 +34,13 @@ fn has_beside(
     ensures { result ≡ some (beside (row_fit bytes.now words.now p token.now today yesterday) b) p.lines.trip.n }
 {
     let trip = p.lines.trip;
-    let n = trip.n as usize;
-    let mut k = from;
-    while k < n {
+    for k in from..trip.n as usize {
         if !on_line(bytes, words, p, token, k) {
             return false;
         }
         if is_beside(k, b, fit_at(bytes, words, p, today, yesterday, k), fit) {
             return true;
         }
-        k += 1;
     }
     false
 }

@@ -1,4 +1,5 @@
 -- The row that fits best, as a loop over a line's rows finds it. Assumes nothing.
+use Rattle.std.specs.Prelude.{Some, None}
 use Prim.Native.Nat.{ℕ, zero, suc, ◌<◌, ◌≤◌, ◌+◌}
 use native.Mathlib.Omega.{arith}
 use native.Mathlib.Nat.{eq-or-lt_of_le}
@@ -9,8 +10,6 @@ use mathlib.Core.Bool.{Bool, true, false, cond}
 use mathlib.Core.List.{List, []}
 use borrow.Author.Tests.{le-ltb, ltb-true}
 use lib.Dec.{ltb}
-use Rattle.ids.specs.declared.lookup.Found.{Found}
-use Rattle.ids.specs.declared.lookup.Found.TheVariants.{At, Nothing}
 use Rattle.ids.proofs.ByteOrder.{clash, split}
 use Rattle.ids.specs.Pool.{cell_of}
 use Rattle.row_stands.specs.Stands.{stand_of, parts_at, key_of}
@@ -34,7 +33,7 @@ module _ (fits : ℕ → Fit) where
   pub next : (k : ℕ) → kept_of (state_of k) (away (fits k)) k ≡ state_of (k + 1)
   unfolding best_of
   next k = rw add-one (go (ltb (away (fits k)) (least_of fits (best_of fits k)))) where
-    go : (t : Bool) → cond t (record { at = At k; away = away (fits k) }) (state_of k) ≡ record { at = cond t (At k) (best_of fits k); away = least_of fits (cond t (At k) (best_of fits k)) }
+    go : (t : Bool) → cond t (record { at = Some k; away = away (fits k) }) (state_of k) ≡ record { at = cond t (Some k) (best_of fits k); away = least_of fits (cond t (Some k) (best_of fits k)) }
     go true = refl
     go false = refl
 
@@ -43,15 +42,15 @@ module _ (fits : ℕ → Fit) where
   unfolding best_of
   least_le zero = omega arith
   least_le (suc n) = go (ltb (away (fits n)) (least_of fits (best_of fits n))) refl (least_le n) where
-    go : (t : Bool) → ltb (away (fits n)) (least_of fits (best_of fits n)) ≡ t → least_of fits (best_of fits n) ≤ 901 → least_of fits (cond t (At n) (best_of fits n)) ≤ 901
+    go : (t : Bool) → ltb (away (fits n)) (least_of fits (best_of fits n)) ≡ t → least_of fits (best_of fits n) ≤ 901 → least_of fits (cond t (Some n) (best_of fits n)) ≤ 901
     go true e h = omega (arith, ltb-true (away (fits n)) (least_of fits (best_of fits n)) e)
     go false e h = h
 
-  best_within : (n b : ℕ) → best_of fits n ≡ At b → away (fits b) < 901
+  best_within : (n b : ℕ) → best_of fits n ≡ Some b → away (fits b) < 901
   unfolding best_of
   best_within zero b e = clash (cc)
   best_within (suc n) b e = go (ltb (away (fits n)) (least_of fits (best_of fits n))) refl e (best_within n b) where
-    go : (t : Bool) → ltb (away (fits n)) (least_of fits (best_of fits n)) ≡ t → cond t (At n) (best_of fits n) ≡ At b → (best_of fits n ≡ At b → away (fits b) < 901) → away (fits b) < 901
+    go : (t : Bool) → ltb (away (fits n)) (least_of fits (best_of fits n)) ≡ t → cond t (Some n) (best_of fits n) ≡ Some b → (best_of fits n ≡ Some b → away (fits b) < 901) → away (fits b) < 901
     go true q r h = let s : n ≡ b = cc in rw (← s) (omega (arith, ltb-true (away (fits n)) (least_of fits (best_of fits n)) q, least_le n))
     go false q r h = h r
 
@@ -60,7 +59,7 @@ module _ (fits : ℕ → Fit) where
   rests k e = simp (e, le-ltb 901 (least_of fits (best_of fits k)) (least_le k))
 
   -- rows that never fit change nothing
-  pub none_yet : (k : ℕ) → ((j : ℕ) → j < k → fits j ≡ Never) → best_of fits k ≡ Nothing
+  pub none_yet : (k : ℕ) → ((j : ℕ) → j < k → fits j ≡ Never) → best_of fits k ≡ None
   unfolding best_of
   none_yet zero h = refl
   none_yet (suc k) h = rests k (h k (omega arith)) ∙ none_yet k (λ j l. h j (omega arith))
@@ -81,7 +80,7 @@ module _ (bytes words : List ℕ) (p : Plan) (token : List ℕ) (today yesterday
   unfolding row_fit
   on_line_fit k e = simp e
 
-  pub best_on_line : (n b : ℕ) → best_of (row_fit bytes words p token today yesterday) n ≡ At b → on_line bytes words p token b ≡ true
+  pub best_on_line : (n b : ℕ) → best_of (row_fit bytes words p token today yesterday) n ≡ Some b → on_line bytes words p token b ≡ true
   best_on_line n b e = ⊎_elim (λ t. t) (λ f. absurd (far f)) (split (on_line bytes words p token b)) where
     far : on_line bytes words p token b ≡ false → ⊥
     far f =

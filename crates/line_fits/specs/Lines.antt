@@ -1,8 +1,6 @@
 -- The row of a line that fits the moment asked of best. A line's rows are those of the line entries that have its token.
-use Rattle.std.specs.Prelude.{ℕ, zero, suc, Bool, cond, List, [], ltb}
+use Rattle.std.specs.Prelude.{ℕ, zero, suc, Bool, cond, List, [], ltb, Option, Some, None}
 use Rattle.ids.specs.Pool.{cell_of}
-use Rattle.ids.specs.declared.lookup.Found.{Found}
-use Rattle.ids.specs.declared.lookup.Found.TheVariants.{At, Nothing}
 use Rattle.row_stands.specs.Stands.{stand_of}
 use Rattle.row_lookup.specs.Rows.{row_is, place_of, InOrder}
 use Rattle.row_stands.specs.declared.rows.Rows.TheVariants.{Lines}
@@ -29,18 +27,18 @@ abbrev pub line_from : List ℕ → List ℕ → Plan → List ℕ → ℕ
 line_from bytes words p token = place_of (stand_of bytes words (Lines p.lines.token) token [] 0 0) p.lines.trip.n
 
 -- how far away the row found is
-abbrev pub least_of : (ℕ → Fit) → Found → ℕ
-least_of fits (At b) = away (fits b)
-least_of fits Nothing = 901
+abbrev pub least_of : (ℕ → Fit) → Option ℕ → ℕ
+least_of fits (Some b) = away (fits b)
+least_of fits None = 901
 
 -- the first of n rows than which none is nearer, no more than 900 seconds away
-unfoldable pub best_of : (ℕ → Fit) → ℕ → Found
-best_of fits zero = Nothing
-best_of fits (suc n) = cond (ltb (away (fits n)) (least_of fits (best_of fits n))) (At n) (best_of fits n)
+unfoldable pub best_of : (ℕ → Fit) → ℕ → Option ℕ
+best_of fits zero = None
+best_of fits (suc n) = cond (ltb (away (fits n)) (least_of fits (best_of fits n))) (Some n) (best_of fits n)
 
 -- the row found so far, with row k, which is so far away
 abbrev pub kept_of : Best → ℕ → ℕ → Best
-kept_of best away k = cond (ltb away best.away) (record { at = At k; away = away }) best
+kept_of best away k = cond (ltb away best.away) (record { at = Some k; away = away }) best
 
 -- the line entries and the calendar tables ascend
 pub record Planned (bytes words : List ℕ) (p : Plan) : Type 0 where

@@ -6,9 +6,9 @@ ghost use Rattle.trip_fits.specs.Fits.{trip_fit};
 ghost use Rattle.line_fits.specs.Lines.{on_line, row_fit, line_from, kept_of, best_of, Planned};
 
 use departure_fits::{Count, Fit, away_of};
-use ids::{Found, Order};
 use row_lookup::seek;
 use row_stands::{Rows, stands};
+use std::cmp::Ordering;
 use trip_fits::{Plan, fit_of};
 
 // Whether row k of the line entries has the token.
@@ -26,9 +26,9 @@ pub fn on_line(bytes: &[u8], words: &[u32], p: Plan, token: &[u8], k: usize) -> 
         0,
         0,
     ) {
-        Order::Less => false,
-        Order::Same => true,
-        Order::More => false,
+        Ordering::Less => false,
+        Ordering::Equal => true,
+        Ordering::Greater => false,
     }
 }
 
@@ -70,7 +70,7 @@ pub fn first_on_line(bytes: &[u8], words: &[u32], p: Plan, token: &[u8]) -> usiz
 // The row found so far, and how far away it is.
 #[derive(Clone, Copy)]
 struct Best {
-    at: Found,
+    at: Option<usize>,
     away: u64,
 }
 
@@ -79,10 +79,7 @@ fn kept(best: Best, away: u64, k: usize) -> Best
     ensures { result ≡ kept_of best away k }
 {
     if away < best.away {
-        return Best {
-            at: Found::At(k),
-            away,
-        };
+        return Best { at: Some(k), away };
     }
     best
 }
@@ -96,19 +93,17 @@ pub fn best_of(
     today: Count,
     yesterday: Count,
     from: usize,
-) -> Found
+) -> Option<usize>
     requires planned { Planned bytes.now words.now p }
     requires from_value { from ≡ line_from bytes.now words.now p token.now }
     ensures { result ≡ best_of (row_fit bytes.now words.now p token.now today yesterday) p.lines.trip.n }
 {
     let trip = p.lines.trip;
-    let n = trip.n as usize;
     let mut best = Best {
-        at: Found::Nothing,
+        at: None,
         away: 901,
     };
-    let mut k = from;
-    while k < n {
+    for k in from..trip.n as usize {
         if !on_line(bytes, words, p, token, k) {
             return best.at;
         }
@@ -117,7 +112,6 @@ pub fn best_of(
             away_of(fit_at(bytes, words, p, today, yesterday, k)),
             k,
         );
-        k += 1;
     }
     best.at
 }

@@ -6,4 +6,4 @@
 
 mod part; // a part of a line, its vertices and its length
 
-pub use part::{Part, less, next_point, part_length, point, stretch_length, whole};
+pub use part::{Part, next_point, part_length, point, stretch_length, whole};

@@ -4,8 +4,8 @@ ghost use Rattle.lengths.specs.Line.{line_of};
 ghost use Rattle.line_questions.specs.Asked.{vertices_lent, polyline_lent, position_lent, along_lent};
 
 use lent_distances::{between_distances, between_feed_distances};
-use stretches::Interpolated;
-use tables::{Along, dists_of, reals_of};
+use stretches::Drawn;
+use tables::{Along, cut};
 
 // What is asked of a line.
 #[derive(Clone, Copy)]
@@ -20,23 +20,23 @@ pub enum Question {
     Polyline,
 }
 
-fn of_line(lat: &[f64], lon: &[f64], x: &[f64]) -> Interpolated
+fn of_line(lat: &[f64], lon: &[f64], x: &[f64]) -> Option<Drawn>
     ensures { result ≡ vertices_lent (line_of lat.now lon.now) x.now }
 {
     if x.len() < 1 {
-        return Interpolated::Nothing;
+        return None;
     }
     routes::interpolate_along_vertices(lat, lon, x[0])
 }
 
-fn of_part(lat: &[f64], lon: &[f64], y: &[f64], z: &[f64], x: &[f64]) -> Interpolated
+fn of_part(lat: &[f64], lon: &[f64], y: &[f64], z: &[f64], x: &[f64]) -> Option<Drawn>
     ensures { result ≡ polyline_lent (line_of lat.now lon.now) (line_of y.now z.now) x.now }
 {
     if lengths::vertices(y, z) < 2 {
-        return Interpolated::Nothing;
+        return None;
     }
     if x.len() < 1 {
-        return Interpolated::Nothing;
+        return None;
     }
     polylines::interpolate_polyline(
         lat,
@@ -56,7 +56,7 @@ fn position(
     z: &[f64],
     d: &[f32],
     x: &[f64],
-) -> Interpolated
+) -> Option<Drawn>
     ensures { result ≡ position_lent question (line_of lat.now lon.now) (line_of y.now z.now) d.now x.now }
 {
     match question {
@@ -68,7 +68,7 @@ fn position(
 }
 
 // The position asked for, of what is not refused.
-pub fn lent(reals: &[f64], dists: &[f32], question: Question, a: Along) -> Interpolated
+pub fn lent(reals: &[f64], dists: &[f32], question: Question, a: Along) -> Option<Drawn>
     ensures { result ≡ along_lent reals.now dists.now question a }
 {
     let lat = a.line.lat;
@@ -79,11 +79,11 @@ pub fn lent(reals: &[f64], dists: &[f32], question: Question, a: Along) -> Inter
     let x = a.numbers;
     position(
         question,
-        reals_of(reals, lat),
-        reals_of(reals, lon),
-        reals_of(reals, y),
-        reals_of(reals, z),
-        dists_of(dists, d),
-        reals_of(reals, x),
+        cut(reals, lat),
+        cut(reals, lon),
+        cut(reals, y),
+        cut(reals, z),
+        cut(dists, d),
+        cut(reals, x),
     )
 }

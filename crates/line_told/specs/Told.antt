@@ -1,12 +1,10 @@
 -- Answers about a line and about stops on it as numbers, for C. Definitions only.
-use Rattle.std.specs.Prelude.{ℕ, Float}
+use Rattle.unit_scales.specs.declared.metres.Affine.{Affine}
+use Rattle.stretches.specs.declared.drawing.Drawn.{Drawn}
+use Rattle.std.specs.Prelude.{ℕ, Float, Option, Some, None}
 use Rattle.floats.specs.Number.{nought}
-use Rattle.measure.specs.Answer.{Answer, refused, given}
-use Rattle.unit_scales.specs.declared.metres.Calibrated.TheVariants.{By, Nothing as Uncalibrated}
-use Rattle.unit_scales.specs.declared.metres.Calibrated.{Calibrated}
+use Rattle.refusals.specs.Answer.{Answer, refused, given}
 use Rattle.line_answers.specs.Answers.{Perhaps, none, one}
-use Rattle.stretches.specs.declared.drawing.Interpolated.{Interpolated}
-use Rattle.stretches.specs.declared.drawing.Interpolated.TheVariants.{At, Nothing}
 use Rattle.line_told.specs.declared.metres.MetresTold.{MetresTold}
 use Rattle.line_told.specs.declared.position.PositionTold.{PositionTold}
 use Rattle.line_told.specs.declared.scale.ScaleTold.{ScaleTold}
@@ -19,17 +17,17 @@ scale_told (given (one x)) = record { scale = x; answered = 1; refusal = 0 }
 scale_told (given none) = record { scale = nought; answered = 0; refusal = 0 }
 scale_told (refused n) = record { scale = nought; answered = 0; refusal = n }
 
-abbrev pub metres_told : Answer Calibrated → MetresTold
-metres_told (given (By f)) = record { shift = f.a; scale = f.b; answered = 1; refusal = 0 }
-metres_told (given Uncalibrated) = record { shift = nought; scale = nought; answered = 0; refusal = 0 }
+abbrev pub metres_told : Answer (Option Affine) → MetresTold
+metres_told (given (Some f)) = record { shift = f.a; scale = f.b; answered = 1; refusal = 0 }
+metres_told (given None) = record { shift = nought; scale = nought; answered = 0; refusal = 0 }
 metres_told (refused n) = record { shift = nought; scale = nought; answered = 0; refusal = n }
 
 abbrev pub no_position : ℕ → PositionTold
 no_position n = record { lat = nought; lon = nought; bearing = nought; answered = 0; refusal = n }
 
-abbrev pub position_told : Answer Interpolated → PositionTold
-position_told (given (At d)) = record { lat = d.lat; lon = d.lon; bearing = d.bearing; answered = 1; refusal = 0 }
-position_told (given Nothing) = no_position 0
+abbrev pub position_told : Answer (Option Drawn) → PositionTold
+position_told (given (Some d)) = record { lat = d.lat; lon = d.lon; bearing = d.bearing; answered = 1; refusal = 0 }
+position_told (given None) = no_position 0
 position_told (refused n) = no_position n
 
 abbrev pub step_told : Answer Step → StepTold

@@ -1,5 +1,6 @@
 // The metres that samples' distances stand for.
 ghost use Rattle.std.specs.Prelude.{◌≡◌};
+ghost use Rattle.floats.specs.Number.{nought};
 ghost use Rattle.line_answers.specs.Answers.{calibration_answer};
 ghost use Rattle.line_told.specs.Told.{metres_told};
 
@@ -16,6 +17,18 @@ pub struct MetresTold {
     pub refusal: u32,
 }
 
+// No calibration: where there is none, or where it is refused.
+fn no_metres(refusal: u32) -> MetresTold
+    ensures { result ≡ record { shift = nought; scale = nought; answered = 0; refusal = refusal } }
+{
+    MetresTold {
+        shift: 0.0,
+        scale: 0.0,
+        answered: 0,
+        refusal,
+    }
+}
+
 pub fn tell_metres(c: Calibration) -> MetresTold
     ensures { result ≡ metres_told (calibration_answer c) }
 {
@@ -26,17 +39,7 @@ pub fn tell_metres(c: Calibration) -> MetresTold
             answered: 1,
             refusal: 0,
         },
-        Calibration::Nothing => MetresTold {
-            shift: 0.0,
-            scale: 0.0,
-            answered: 0,
-            refusal: 0,
-        },
-        Calibration::Refused(refusal) => MetresTold {
-            shift: 0.0,
-            scale: 0.0,
-            answered: 0,
-            refusal,
-        },
+        Calibration::Nothing => no_metres(0),
+        Calibration::Refused(n) => no_metres(n),
     }
 }

@@ -1,5 +1,6 @@
 // The unit that a ratio is near.
 ghost use Rattle.std.specs.Prelude.{◌≡◌};
+ghost use Rattle.floats.specs.Number.{nought};
 ghost use Rattle.line_answers.specs.Answers.{snapped_answer};
 ghost use Rattle.line_told.specs.Told.{scale_told};
 
@@ -14,6 +15,17 @@ pub struct ScaleTold {
     pub refusal: u32,
 }
 
+// No scale: where there is none, or where it is refused.
+fn no_scale(refusal: u32) -> ScaleTold
+    ensures { result ≡ record { scale = nought; answered = 0; refusal = refusal } }
+{
+    ScaleTold {
+        scale: 0.0,
+        answered: 0,
+        refusal,
+    }
+}
+
 pub fn tell_scale(s: Snapped) -> ScaleTold
     ensures { result ≡ scale_told (snapped_answer s) }
 {
@@ -23,15 +35,7 @@ pub fn tell_scale(s: Snapped) -> ScaleTold
             answered: 1,
             refusal: 0,
         },
-        Snapped::Nothing => ScaleTold {
-            scale: 0.0,
-            answered: 0,
-            refusal: 0,
-        },
-        Snapped::Refused(refusal) => ScaleTold {
-            scale: 0.0,
-            answered: 0,
-            refusal,
-        },
+        Snapped::Nothing => no_scale(0),
+        Snapped::Refused(n) => no_scale(n),
     }
 }

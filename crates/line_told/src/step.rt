@@ -18,14 +18,11 @@ pub fn tell_step(s: Stepped) -> StepTold
     ensures { result ≡ step_told (step_answer s) }
 {
     match s {
-        Stepped::To(step) => {
-            let next = step.cursor;
-            StepTold {
-                cursor: next.at,
-                vertex: step.vertex,
-                refusal: 0,
-            }
-        }
+        Stepped::To(step) => StepTold {
+            cursor: step.cursor.at,
+            vertex: step.vertex,
+            refusal: 0,
+        },
         Stepped::Refused(refusal) => StepTold {
             cursor: 0,
             vertex: 0,

@@ -1,5 +1,5 @@
 -- What is so of each part that trips and stops are looked up by where no cause of it is there. A number after `at` is a cause's place in the part's list.
--- `Rattle.refusals.proofs.Facts` has what each kind of fact says, and `counted` for the part's columns and counts.
+-- `Rattle.verdicts.proofs.Facts` has what each kind of fact says, and `counted` for the part's columns and counts.
 use Prim.Native.Nat.{ℕ, ◌<◌, ◌≤◌}
 use native.Mathlib.Omega.{arith}
 use mathlib.Core.Path.{refl, sym, subst}
@@ -9,13 +9,13 @@ use Rattle.ids.specs.Pool.{id_of}
 use Rattle.ids.specs.Rows.{Ascending, GoodIds}
 use Rattle.column_order.specs.declared.order.Key.TheVariants.{IdWord}
 use Rattle.tables.specs.Pools.{Pools}
-use Rattle.refusals.specs.Refuse.{always}
+use Rattle.tables.specs.Marks.{always}
 use Rattle.tables.specs.declared.bounds.Bounds.{Bounds}
 use Rattle.tables.specs.declared.lent.Aliases.{Aliases}
 use Rattle.tables.specs.declared.lent.IdRows.{IdRows}
 use Rattle.tables.specs.declared.lent.Lines.{Lines}
-use Rattle.refusals.proofs.Passed.{Clear, clear_drop, clear_part}
-use Rattle.refusals.proofs.Facts.{Below, below, Ascend, ascend, by_id, IdsHold, ids_hold, all_count, good_ids}
+use Rattle.verdicts.proofs.Passed.{Clear, clear_drop, clear_part}
+use Rattle.verdicts.proofs.Facts.{Below, below, Ascend, ascend, by_id, IdsHold, ids_hold, all_count, good_ids}
 use Rattle.lookup_rules.specs.Parts.{id_rows_causes, aliases_causes, lines_causes}
 
 module _ (p : Pools) where

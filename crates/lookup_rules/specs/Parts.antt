@@ -1,7 +1,8 @@
 -- The causes of each part that trips and stops are looked up by: a refusal's number, and the fault that it is given for. A table has as many rows as the column that `n` is taken of.
 use Rattle.std.specs.Prelude.{ℕ, false, List, [], ◌∷◌, ◌++◌}
 use Rattle.column_order.specs.declared.order.Key.TheVariants.{Id, IdWord}
-use Rattle.refusals.specs.Refuse.{Cause, always, cause, id_causes}
+use Rattle.verdicts.specs.Refuse.{Cause, cause, id_causes}
+use Rattle.tables.specs.Marks.{always}
 use Rattle.tables.specs.declared.bounds.Bounds.{Bounds}
 use Rattle.tables.specs.declared.mark.Pool.TheVariants.{Words}
 use Rattle.faults.specs.declared.fault.Test.TheVariants.{Column, Over, Reaches, Unsorted}

@@ -1,8 +1,6 @@
 -- The trip whose id is made of parts of a ref.
-use Rattle.std.specs.Prelude.{ℕ, cond, List, ◌∷◌, ◌++◌}
+use Rattle.std.specs.Prelude.{ℕ, cond, List, ◌∷◌, ◌++◌, Option, None}
 use Rattle.text_runs.specs.Runs.{first_byte}
-use Rattle.ids.specs.declared.lookup.Found.{Found}
-use Rattle.ids.specs.declared.lookup.Found.TheVariants.{Nothing}
 use Rattle.parts.specs.Parts.{up_to}
 use Rattle.refs.specs.Refs.{journey_id_of}
 use Rattle.uuids.specs.Uuids.{is_uuid}
@@ -16,5 +14,5 @@ feed_of base = up_to (first_byte base 58) base base
 
 module _ (bytes words : List ℕ) (tripkeys : IdRows) where
   -- the trip whose id is made of the ref's feed and its journey id, where that is a UUID
-  unfoldable pub built_of : List ℕ → Found
-  built_of base = let j = journey_id_of base in cond (is_uuid j) (trip_of bytes words tripkeys (feed_of base ++ (58 ∷ trip_mark ++ j))) Nothing
+  unfoldable pub built_of : List ℕ → Option ℕ
+  built_of base = let j = journey_id_of base in cond (is_uuid j) (trip_of bytes words tripkeys (feed_of base ++ (58 ∷ trip_mark ++ j))) None

@@ -4,7 +4,6 @@ ghost use Rattle.ids.specs.Pool.{id_of};
 ghost use Rattle.ids.specs.Rows.{GoodIds};
 ghost use Rattle.made_ids.specs.Made.{feed_of, built_of};
 
-use ids::Found;
 use tables::IdRows;
 use trip_ids::trip_at;
 
@@ -13,13 +12,13 @@ fn feed<'a>(base: &'a [u8]) -> &'a [u8]
     ensures { result.now ≡ feed_of base.now }
 {
     match text_runs::first_of(base, b':') {
-        Found::At(k) => ids::part(base, 0, k),
-        Found::Nothing => base,
+        Some(k) => ids::part(base, 0, k),
+        None => base,
     }
 }
 
 // The trip whose id is made of the ref's feed and its journey id, where that is a UUID.
-pub fn built(bytes: &[u8], words: &[u32], tripkeys: IdRows, base: &[u8]) -> Found
+pub fn built(bytes: &[u8], words: &[u32], tripkeys: IdRows, base: &[u8]) -> Option<usize>
     requires { GoodIds (id_of bytes.now words.now tripkeys.id) tripkeys.id.starts.n }
     ensures { result ≡ built_of bytes.now words.now tripkeys base.now }
 {
@@ -33,5 +32,5 @@ pub fn built(bytes: &[u8], words: &[u32], tripkeys: IdRows, base: &[u8]) -> Foun
             keys::find_joined(bytes, words, id, b"", feed(base), b":IDFM:TN:SNCF:", j),
         );
     }
-    Found::Nothing
+    None
 }

@@ -5,7 +5,6 @@ ghost use Rattle.trip_times.specs.Line.{ShortTokens};
 ghost use Rattle.matching.specs.Matching.{timed_trip, match_of, Ready};
 
 use departure_fits::Count;
-use ids::Found;
 use named_trips::by_id;
 use tables::{Aliases, IdRows};
 use trip_fits::Plan;
@@ -29,17 +28,17 @@ fn by_time<'a>(
     departs: bool,
     today: Count,
     yesterday: Count,
-) -> Found
+) -> Option<usize>
     requires planned { Planned bytes.now words.now p }
     requires short_tokens { ShortTokens bytes.now words.now p }
     ensures { result ≡ timed_trip bytes.now words.now p base.now route.now departs today yesterday }
 {
     let token = tokens::token_of(route, base);
     if !departs {
-        return Found::Nothing;
+        return None;
     }
     if token.len() == 0 {
-        return Found::Nothing;
+        return None;
     }
     by_token(bytes, words, p, token, today, yesterday)
 }
@@ -56,19 +55,19 @@ pub fn resolve<'a>(
     departs: bool,
     today: Count,
     yesterday: Count,
-) -> Found
+) -> Option<usize>
     requires { Ready bytes.now words.now n p }
     ensures { result ≡ match_of bytes.now words.now n p base.now route.now departs today yesterday }
 {
     let tripkeys = n.tripkeys;
     let aliases = n.aliases;
     match by_id(bytes, words, tripkeys, aliases, base) {
-        Found::At(trip) => return Found::At(trip),
-        Found::Nothing => {}
+        Some(trip) => return Some(trip),
+        None => {}
     }
     match by_time(bytes, words, p, base, route, departs, today, yesterday) {
-        Found::At(trip) => return Found::At(trip),
-        Found::Nothing => {}
+        Some(trip) => return Some(trip),
+        None => {}
     }
     by_tail(bytes, words, tripkeys, base)
 }

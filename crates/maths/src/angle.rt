@@ -2,14 +2,16 @@
 ghost use Rattle.std.specs.Prelude.{◌≡◌};
 ghost use Rattle.maths.specs.Trig.{radians_of, degrees_of};
 
+#[tactic(auto, unfolding(crate::specs::Trig::radians_of))]
 pub fn radians(x: f64) -> f64
     ensures { result ≡ radians_of x }
 {
-    x * 0.017453292519943295
+    x.to_radians()
 }
 
+#[tactic(auto, unfolding(crate::specs::Trig::degrees_of))]
 pub fn degrees(x: f64) -> f64
     ensures { result ≡ degrees_of x }
 {
-    x * 57.29577951308232
+    x.to_degrees()
 }

@@ -2,8 +2,11 @@
 ghost use Rattle.std.specs.Prelude.{◌≡◌};
 ghost use Rattle.maths.specs.Trig.{hypot_of};
 
+use roots::root;
+
+#[tactic(auto, unfolding(crate::specs::Trig::hypot_of))]
 pub fn hypot(x: f64, y: f64) -> f64
     ensures { result ≡ hypot_of x y }
 {
-    roots::root(x * x + y * y)
+    root(x * x + y * y)
 }

@@ -1,3 +1,2 @@
--- `Answers`: what the measures answer. `Turn`: what is left of a bearing past a whole turn.
-pub mod Answers
+-- `Turn`: what is left of a bearing past a whole turn.
 pub mod Turn

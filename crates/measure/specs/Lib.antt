@@ -1,3 +1,2 @@
--- `Answer`: a refusal or a value. `Measure`: bearings, and measures as operations.
-pub mod Answer
+-- `Measure`: bearings, and measures as operations.
 pub mod Measure

@@ -5,7 +5,7 @@ use Rattle.std.specs.Float.Ieee.{add, sub, mul, rem}
 use Rattle.maths.specs.Series.{whole}
 use Rattle.maths.specs.Trig.{sin_of, cos_of, radians_of, degrees_of}
 use Rattle.arcs.specs.Arcs.{atan2_of}
-use Rattle.measure.specs.Answer.{Answer, refused, given}
+use Rattle.refusals.specs.Answer.{Answer, refused, given}
 use Rattle.globe.specs.Globe.{both_on_globe}
 
 -- degrees from north, clockwise

@@ -8,5 +8,5 @@
 mod answer; // answer.rt: haversine_m, bearing_deg
 mod sphere; // sphere.rt: bearing
 
-pub use answer::{Measured, bearing_deg, haversine_m};
+pub use answer::{bearing_deg, haversine_m};
 pub use sphere::bearing;

@@ -2,7 +2,8 @@
 ghost use Rattle.std.specs.Prelude.{◌≡◌};
 ghost use Rattle.measure.specs.Measure.{bearing_of};
 
-use maths::{cos, radians, sin};
+use arcs::atan2;
+use maths::{cos, degrees, radians, sin};
 
 // The bearing at the first position of the way to the second, in degrees from north, clockwise.
 pub fn bearing(lat1: f64, lon1: f64, lat2: f64, lon2: f64) -> f64
@@ -14,11 +15,12 @@ pub fn bearing(lat1: f64, lon1: f64, lat2: f64, lon2: f64) -> f64
     let cos2 = cos(phi2);
     let y = sin(dlon) * cos2;
     let x = cos(phi1) * sin(phi2) - sin(phi1) * cos2 * cos(dlon);
-    let theta = maths::degrees(arcs::atan2(y, x));
+    let theta = degrees(atan2(y, x));
     // The remainder by 360: the sum is NaN, or above 0 and below 720.
     let turned = theta + 360.0;
     if turned < 360.0 {
-        return turned;
+        turned
+    } else {
+        turned - 360.0
     }
-    turned - 360.0
 }

@@ -1,11 +1,11 @@
 -- The first vertex near a stop, by what the search for the least distance remembers. Assumes nothing.
+use Rattle.std.specs.Prelude.{Some}
 use Prim.Native.Nat.{ℕ, ◌+◌, ◌-◌, ◌<◌}
 use native.Mathlib.Omega.{arith}
 use mathlib.Core.Path.{◌≡◌, sym, ◌∙◌}
 use mathlib.Core.List.{List}
 use lib.Ieee.{le}
 use lib.ListN.{drop}
-use Rattle.ids.specs.declared.lookup.Found.TheVariants.{At}
 use Rattle.lengths.specs.declared.line.Point.{Point}
 use Rattle.vertices_within.specs.Near.{distance_of, distances_of, first_within}
 use Rattle.distance_sweep.specs.Nearest.{bound_of, Nears}
@@ -21,7 +21,7 @@ module _ (stop : Point) (line : List Point) (at : ℕ) (near : Nearest) (r : Nea
       rw e at (first_skip stop line (bound_of near) (near.from - at) at (λ j a b. no (le (distance_of stop line j) (bound_of near)) (r.seen.far j a (omega (arith, r.seen.starts)))))
 
   -- it is `from` where that is the one marked
-  pub first_marked : near.upto - near.from ≡ 1 → At near.from ≡ first_within (bound_of near) at (distances_of stop (drop at line))
+  pub first_marked : near.upto - near.from ≡ 1 → Some near.from ≡ first_within (bound_of near) at (distances_of stop (drop at line))
   first_marked e =
       let s = r.seen in
       let a : at < near.upto = omega (arith, s.starts) in

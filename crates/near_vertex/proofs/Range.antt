@@ -1,4 +1,5 @@
 -- What a search near a stop finds is a vertex of the line, and not before the one that it begins at. Assumes nothing.
+use Rattle.std.specs.Prelude.{Option, Some, None}
 use Prim.Native.Nat.{ℕ, suc, ◌+◌, ◌-◌, ◌<◌, ◌≤◌}
 use native.Mathlib.Omega.{arith}
 use mathlib.Core.Path.{◌≡◌, refl, ap}
@@ -6,8 +7,6 @@ use mathlib.Core.Bool.{Bool, true, false, cond}
 use mathlib.Core.List.{List, [], ◌∷◌}
 use lib.Ieee.{Float, le}
 use lib.ListN.{length, drop, length-drop}
-use Rattle.ids.specs.declared.lookup.Found.{Found}
-use Rattle.ids.specs.declared.lookup.Found.TheVariants.{At, Nothing}
 use Rattle.ids.proofs.ByteOrder.{clash}
 use Rattle.lengths.specs.declared.line.Point.{Point}
 use Rattle.vertices_within.specs.Near.{distances_of, first_within, last_within, or_else}
@@ -21,24 +20,24 @@ distance_count stop [] = refl
 distance_count stop (v ∷ line) = ap suc (distance_count stop line)
 
 -- a vertex found, or the other, is in a range that holds both
-pub record Among (low high : ℕ) (f : Found) : Type 0 where
-  pub from : (j : ℕ) → f ≡ At j → low ≤ j
-  pub below : (j : ℕ) → f ≡ At j → j < high
+pub record Among (low high : ℕ) (f : Option ℕ) : Type 0 where
+  pub from : (j : ℕ) → f ≡ Some j → low ≤ j
+  pub below : (j : ℕ) → f ≡ Some j → j < high
 
-at_among : {low high : ℕ} (k : ℕ) → low ≤ k → k < high → Among low high (At k)
+at_among : {low high : ℕ} (k : ℕ) → low ≤ k → k < high → Among low high (Some k)
 at_among k a b = record { from = λ j e. let q : k ≡ j = cc in omega arith; below = λ j e. let q : k ≡ j = cc in omega arith }
 
-none_among : {low high : ℕ} → Among low high Nothing
+none_among : {low high : ℕ} → Among low high None
 none_among = record { from = λ j e. clash (cc); below = λ j e. clash (cc) }
 
-wider : {low high low' high' : ℕ} {f : Found} → low' ≤ low → high ≤ high' → Among low high f → Among low' high' f
+wider : {low high low' high' : ℕ} {f : Option ℕ} → low' ≤ low → high ≤ high' → Among low high f → Among low' high' f
 wider a b m = record { from = λ j e. omega (arith, m.from j e); below = λ j e. omega (arith, m.below j e) }
 
 pub first_among : (most : Float) (k : ℕ) (ds : List Float) → Among k (k + length ds) (first_within most k ds)
 unfolding first_within
 first_among most k [] = none_among
 first_among most k (d ∷ ds) = go (wider (omega arith) (omega arith) (first_among most (suc k) ds)) (le d most) where
-  go : Among k (k + suc (length ds)) (first_within most (suc k) ds) → (t : Bool) → Among k (k + suc (length ds)) (cond t (At k) (first_within most (suc k) ds))
+  go : Among k (k + suc (length ds)) (first_within most (suc k) ds) → (t : Bool) → Among k (k + suc (length ds)) (cond t (Some k) (first_within most (suc k) ds))
   go m true = at_among k (omega arith) (omega arith)
   go m false = m
 
@@ -46,21 +45,21 @@ pub last_among : (most : Float) (k : ℕ) (ds : List Float) → Among k (k + len
 unfolding last_within
 last_among most k [] = none_among
 last_among most k (d ∷ ds) = go (last_within most (suc k) ds) (wider (omega arith) (omega arith) (last_among most (suc k) ds)) (le d most) where
-  go : (f : Found) → Among k (k + suc (length ds)) f → (t : Bool) → Among k (k + suc (length ds)) (or_else f (cond t (At k) Nothing))
-  go (At j) m t = m
-  go Nothing m true = at_among k (omega arith) (omega arith)
-  go Nothing m false = none_among
+  go : (f : Option ℕ) → Among k (k + suc (length ds)) f → (t : Bool) → Among k (k + suc (length ds)) (or_else f (cond t (Some k) None))
+  go (Some j) m t = m
+  go None m true = at_among k (omega arith) (omega arith)
+  go None m false = none_among
 
 -- ---- the vertex of a stop, whichever of those found is picked
 
-module _ (pick : Float → ℕ → List Float → Found) (fair : (most : Float) (k : ℕ) (ds : List Float) → Among k (k + length ds) (pick most k ds)) where
-  or_from : (low high : ℕ) (f : Found) → Among low high f → low ≤ or_vertex f low
-  or_from low high (At j) m = m.from j refl
-  or_from low high Nothing m = omega arith
+module _ (pick : Float → ℕ → List Float → Option ℕ) (fair : (most : Float) (k : ℕ) (ds : List Float) → Among k (k + length ds) (pick most k ds)) where
+  or_from : (low high : ℕ) (f : Option ℕ) → Among low high f → low ≤ or_vertex f low
+  or_from low high (Some j) m = m.from j refl
+  or_from low high None m = omega arith
 
-  or_most : (low high : ℕ) (f : Found) → low ≤ high - 1 → Among low high f → or_vertex f low ≤ high - 1
-  or_most low high (At j) h m = omega (arith, m.below j refl)
-  or_most low high Nothing h m = h
+  or_most : (low high : ℕ) (f : Option ℕ) → low ≤ high - 1 → Among low high f → or_vertex f low ≤ high - 1
+  or_most low high (Some j) h m = omega (arith, m.below j refl)
+  or_most low high None h m = h
 
   module _ (line : List Point) (from : ℕ) (stop : Point) where
     start_most : start_of line from ≤ length line - 1

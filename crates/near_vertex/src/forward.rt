@@ -6,51 +6,45 @@ ghost use Rattle.vertices_within.specs.Near.{first_within, last_within};
 ghost use Rattle.near_vertex.specs.Forward.{or_vertex, start_of, forward_last_index, forward_shape_index, near_of};
 
 use distance_sweep::{Nearest, sweep};
-use ids::Found;
 use least_distance::least_from;
 use lengths::{Point, vertices};
 use vertices_within::{first_within, last_within};
 
 // The vertex that a search from `from` begins at: brought down to the last, and 0 on a line without
 // vertices.
+#[tactic(auto, unfolding(crate::specs::Forward::start_of))]
 fn start(lat: &[f64], lon: &[f64], from: usize) -> usize
     ensures { result ≡ start_of (line_of lat.now lon.now) from }
 {
-    let n = vertices(lat, lon);
-    if from < n {
-        return from;
-    }
-    if n == 0 {
-        return 0;
-    }
-    n - 1
+    from.min(vertices(lat, lon).saturating_sub(1))
 }
 
 // The vertex found, or the one that the search began at.
-fn or_vertex(found: Found, from: usize) -> usize
+fn or_vertex(found: Option<usize>, from: usize) -> usize
     ensures { result ≡ or_vertex found from }
 {
     match found {
-        Found::At(k) => k,
-        Found::Nothing => from,
+        Some(k) => k,
+        None => from,
     }
 }
 
 // The first vertex within the slack of the least distance. Where it is the one marked, no vertex is
 // looked at again.
-fn first_near(lat: &[f64], lon: &[f64], stop: Point, at: usize) -> Found
+fn first_near(lat: &[f64], lon: &[f64], stop: Point, at: usize) -> Option<usize>
     ensures { result ≡ near_of first_within (line_of lat.now lon.now) at stop }
 {
     let near = sweep(lat, lon, stop, at);
     let from = near.from;
     if near.upto - from == 1 {
-        return Found::At(from);
+        Some(from)
+    } else {
+        first_within(lat, lon, stop, from, near.best + Nearest::SLACK)
     }
-    first_within(lat, lon, stop, from, near.best + Nearest::SLACK)
 }
 
 // The last.
-fn last_near(lat: &[f64], lon: &[f64], stop: Point, at: usize) -> Found
+fn last_near(lat: &[f64], lon: &[f64], stop: Point, at: usize) -> Option<usize>
     ensures { result ≡ near_of last_within (line_of lat.now lon.now) at stop }
 {
     let best = least_from(lat, lon, stop, at);
@@ -59,6 +53,7 @@ fn last_near(lat: &[f64], lon: &[f64], stop: Point, at: usize) -> Found
 
 // The first vertex from `from` on within the slack of the least distance; `from`, brought down to the
 // last vertex, where every distance is NaN.
+#[tactic(auto, unfolding(crate::specs::Forward::forward_shape_index))]
 pub fn forward_shape_index(lat: &[f64], lon: &[f64], from: usize, stop: Point) -> usize
     ensures { result ≡ forward_shape_index (line_of lat.now lon.now) from stop }
 {
@@ -67,6 +62,7 @@ pub fn forward_shape_index(lat: &[f64], lon: &[f64], from: usize, stop: Point) -
 }
 
 // The last: for the end of a trip on a line that ends where it starts.
+#[tactic(auto, unfolding(crate::specs::Forward::forward_last_index))]
 pub fn forward_last_index(lat: &[f64], lon: &[f64], from: usize, stop: Point) -> usize
     ensures { result ≡ forward_last_index (line_of lat.now lon.now) from stop }
 {

@@ -10,10 +10,10 @@ ghost use Rattle.nearest.specs.Squares.{square_of, squares_of, least_in, first_n
 ghost use Rattle.roots.specs.Root.{root_of};
 
 use ieee::least;
-use lengths::{Point, vertices};
-use line_parts::point;
+use lengths::{Point, vertex, vertices};
 
 // The square of the distance between two points.
+#[tactic(auto, unfolding(crate::specs::Squares::square_of))]
 fn square(p: Point, q: Point) -> f64
     ensures { result ≡ square_of p q }
 {
@@ -23,15 +23,13 @@ fn square(p: Point, q: Point) -> f64
 }
 
 // The least square that is no NaN, and infinity where there is none.
+#[tactic(auto, using(crate::proofs::Squares::least_next, crate::proofs::Squares::least_over))]
 fn least_square(lat: &[f64], lon: &[f64], stop: Point) -> f64
     ensures { result ≡ least_in (squares_of stop (line_of lat.now lon.now)) }
 {
-    let n = vertices(lat, lon);
-    let mut best = 1.0 / 0.0;
-    let mut k = 0;
-    while k < n {
-        best = least(best, square(point(lat, lon, k), stop));
-        k += 1;
+    let mut best = f64::INFINITY;
+    for k in 0..vertices(lat, lon) {
+        best = least(best, square(vertex(lat, lon, k), stop));
     }
     best
 }
@@ -43,23 +41,22 @@ fn far_from(square: f64, distance: f64) -> f64
 {
     let more = square * 1.000000000000001;
     if distance < roots::root(more) {
-        return more;
+        more
+    } else {
+        f64::NAN
     }
-    0.0 / 0.0
 }
 
 // The first vertex at a distance, or nearer; 0 where there is none.
+#[tactic(auto, using(crate::proofs::Squares::near_hit, crate::proofs::Squares::near_miss, crate::proofs::Squares::near_over))]
 fn first_near(lat: &[f64], lon: &[f64], stop: Point, distance: f64, far: f64) -> usize
     requires { Far distance far }
     ensures { result ≡ first_near distance 0 (squares_of stop (line_of lat.now lon.now)) }
 {
-    let n = vertices(lat, lon);
-    let mut k = 0;
-    while k < n {
-        if is_near(square(point(lat, lon, k), stop), distance, far) {
+    for k in 0..vertices(lat, lon) {
+        if is_near(square(vertex(lat, lon, k), stop), distance, far) {
             return k;
         }
-        k += 1;
     }
     0
 }
@@ -69,10 +66,7 @@ fn is_near(square: f64, distance: f64, far: f64) -> bool
     requires { Far distance far }
     ensures { result ≡ le (root_of square) distance }
 {
-    if square >= far {
-        return false;
-    }
-    roots::root(square) <= distance
+    !(square >= far) && roots::root(square) <= distance
 }
 
 // The first where two are as near, and 0 where no distance is a number.
@@ -81,8 +75,9 @@ pub fn nearest_idx(lat: &[f64], lon: &[f64], stop: Point) -> usize
 {
     let least = least_square(lat, lon, stop);
     let distance = roots::root(least);
-    if distance < 1.7976931348623157e308 {
-        return first_near(lat, lon, stop, distance, far_from(least, distance));
+    if distance < f64::MAX {
+        first_near(lat, lon, stop, distance, far_from(least, distance))
+    } else {
+        0
     }
-    0
 }

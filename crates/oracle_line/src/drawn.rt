@@ -9,41 +9,23 @@ ghost use Rattle.polylines.specs.Polyline.{polyline_of};
 ghost use Rattle.oracle_line.specs.Asked.{is_at, lat_or, lon_or, bearing_or};
 
 use lengths::Point;
-use stretches::Interpolated;
+use stretches::Drawn;
 
-fn is_at(drawn: Interpolated) -> bool
-    ensures { result ≡ is_at drawn }
+// Writes a position, and says whether there is one.
+fn write_position(drawn: Option<Drawn>, y: &mut f64, x: &mut f64, bearing: &mut f64) -> bool
+    ensures value { result ≡ is_at drawn }
+    ensures y_after { y.new ≡ lat_or drawn y.old }
+    ensures x_after { x.new ≡ lon_or drawn x.old }
+    ensures bearing_after { bearing.new ≡ bearing_or drawn bearing.old }
 {
     match drawn {
-        Interpolated::At(_) => true,
-        Interpolated::Nothing => false,
-    }
-}
-
-fn lat_or(drawn: Interpolated, old: f64) -> f64
-    ensures { result ≡ lat_or drawn old }
-{
-    match drawn {
-        Interpolated::At(d) => d.lat,
-        Interpolated::Nothing => old,
-    }
-}
-
-fn lon_or(drawn: Interpolated, old: f64) -> f64
-    ensures { result ≡ lon_or drawn old }
-{
-    match drawn {
-        Interpolated::At(d) => d.lon,
-        Interpolated::Nothing => old,
-    }
-}
-
-fn bearing_or(drawn: Interpolated, old: f64) -> f64
-    ensures { result ≡ bearing_or drawn old }
-{
-    match drawn {
-        Interpolated::At(d) => d.bearing,
-        Interpolated::Nothing => old,
+        Some(d) => {
+            *y = d.lat;
+            *x = d.lon;
+            *bearing = d.bearing;
+            true
+        }
+        None => false,
     }
 }
 
@@ -63,10 +45,7 @@ pub fn zebumorn_interpolate_shape_by_dist(
     ensures bearing_after { bearing.new ≡ bearing_or (by_dist (line_of lat.now lon.now) d0 d1 frac) bearing.old }
 {
     let drawn = by_distance::interpolate_shape_by_dist(lat, lon, d0, d1, frac);
-    *y = lat_or(drawn, *y);
-    *x = lon_or(drawn, *x);
-    *bearing = bearing_or(drawn, *bearing);
-    is_at(drawn)
+    write_position(drawn, y, x, bearing)
 }
 
 pub fn zebumorn_interpolate_shape_by_feed_dist(
@@ -87,10 +66,7 @@ pub fn zebumorn_interpolate_shape_by_feed_dist(
     ensures bearing_after { bearing.new ≡ bearing_or (by_feed_dist (line_of lat.now lon.now) d0 d1 frac a b) bearing.old }
 {
     let drawn = by_distance::interpolate_shape_by_feed_dist(lat, lon, d0, d1, frac, a, b);
-    *y = lat_or(drawn, *y);
-    *x = lon_or(drawn, *x);
-    *bearing = bearing_or(drawn, *bearing);
-    is_at(drawn)
+    write_position(drawn, y, x, bearing)
 }
 
 pub fn zebumorn_interpolate_along_vertices(
@@ -107,10 +83,7 @@ pub fn zebumorn_interpolate_along_vertices(
     ensures bearing_after { bearing.new ≡ bearing_or (along_vertices (line_of lat.now lon.now) frac) bearing.old }
 {
     let drawn = routes::interpolate_along_vertices(lat, lon, frac);
-    *y = lat_or(drawn, *y);
-    *x = lon_or(drawn, *x);
-    *bearing = bearing_or(drawn, *bearing);
-    is_at(drawn)
+    write_position(drawn, y, x, bearing)
 }
 
 pub fn zebumorn_interpolate_polyline(
@@ -133,10 +106,7 @@ pub fn zebumorn_interpolate_polyline(
     let prev = Point { lat: y0, lon: x0 };
     let next = Point { lat: y1, lon: x1 };
     let drawn = polylines::interpolate_polyline(lat, lon, prev, next, frac);
-    *y = lat_or(drawn, *y);
-    *x = lon_or(drawn, *x);
-    *bearing = bearing_or(drawn, *bearing);
-    is_at(drawn)
+    write_position(drawn, y, x, bearing)
 }
 
 pub fn zebumorn_nearest_idx(lat: &[f64], lon: &[f64], y: f64, x: f64) -> usize

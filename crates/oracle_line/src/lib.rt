@@ -18,10 +18,9 @@ pub use drawn::{
     zebumorn_interpolate_shape_by_dist, zebumorn_interpolate_shape_by_feed_dist,
     zebumorn_nearest_idx,
 };
-use ids::Found;
 use lengths::Point;
-use projection::{Cursor, Position};
-use unit_scales::Calibrated;
+use projection::Cursor;
+use unit_scales::Affine;
 
 pub fn zebumorn_length_to(lat: &[f64], lon: &[f64], k: usize) -> f64
     ensures { result ≡ length_to (line_of lat.now lon.now) k }
@@ -44,22 +43,23 @@ pub fn zebumorn_forward_last_index(lat: &[f64], lon: &[f64], from: usize, y: f64
 }
 
 // The stop's position, if it is known.
-fn position(known: bool, lat: f64, lon: f64) -> Position
+fn position(known: bool, lat: f64, lon: f64) -> Option<Point>
     ensures { result ≡ position_of known lat lon }
 {
     if known {
-        return Position::Known(Point { lat, lon });
+        Some(Point { lat, lon })
+    } else {
+        None
     }
-    Position::Missing
 }
 
 // The vertex, or `other` where there is none.
-fn or_other(found: Found, other: usize) -> usize
+fn or_other(found: Option<usize>, other: usize) -> usize
     ensures { result ≡ or_vertex found other }
 {
     match found {
-        Found::At(k) => k,
-        Found::Nothing => other,
+        Some(k) => k,
+        None => other,
     }
 }
 
@@ -78,8 +78,7 @@ pub fn zebumorn_pass(
     ensures vertex_after { vertex.new ≡ or_vertex (passed_of (line_of lat.now lon.now) (record { at = at }) (position_of known y x)).vertex vertex.old }
 {
     let passed = Cursor { at }.pass(lat, lon, position(known, y, x));
-    let found = passed.vertex;
-    *vertex = or_other(found, *vertex);
+    *vertex = or_other(passed.vertex, *vertex);
     passed.cursor.at
 }
 
@@ -87,6 +86,22 @@ pub fn zebumorn_snap_unit_scale(ratio: f64) -> f64
     ensures { result ≡ snap_unit_scale ratio }
 {
     unit_scales::snap_unit_scale(ratio)
+}
+
+/// Writes the start and the scale of a calibration to `a` and `b`, which stay as they were where there is none, and says whether there is one.
+pub fn write_affine(answer: Option<Affine>, a: &mut f64, b: &mut f64) -> bool
+    ensures value { result ≡ is_by answer }
+    ensures a_after { a.new ≡ start_or answer a.old }
+    ensures b_after { b.new ≡ scale_or answer b.old }
+{
+    match answer {
+        Some(affine) => {
+            *a = affine.a;
+            *b = affine.b;
+            true
+        }
+        None => false,
+    }
 }
 
 // The start and the scale go to `a` and `b`, which stay as they were where there is no answer.
@@ -114,12 +129,5 @@ pub fn zebumorn_shape_dist_affine(
         at: Point { lat: y1, lon: x1 },
         dist: d1,
     };
-    match calibration::shape_dist_affine(lat, lon, first, last) {
-        Calibrated::By(affine) => {
-            *a = affine.a;
-            *b = affine.b;
-            true
-        }
-        Calibrated::Nothing => false,
-    }
+    write_affine(calibration::shape_dist_affine(lat, lon, first, last), a, b)
 }

@@ -10,7 +10,6 @@ ghost use Rattle.oracle_tables.specs.Asked.{course_of, span_at};
 use courses::Course;
 use ids::{IdColumn, Span};
 use tables::{Points, Shapes, StopTimes, Stops, Trips};
-use unit_scales::Calibrated;
 
 // The column whose start is word i and whose count is the next.
 fn span(words: &[u32], i: u32) -> Span
@@ -124,12 +123,6 @@ pub extern "C" fn zebumorn_trip_shape_dist_affine(
     ensures b_after { b.new ≡ scale_or (trip_affine bytes.now words.now reals.now dists.now (course_of words.now) trip) b.old }
 {
     let c = course(words);
-    match trip_samples::trip_shape_dist_affine(bytes, words, reals, dists, c, trip) {
-        Calibrated::By(affine) => {
-            *a = affine.a;
-            *b = affine.b;
-            true
-        }
-        Calibrated::Nothing => false,
-    }
+    let answer = trip_samples::trip_shape_dist_affine(bytes, words, reals, dists, c, trip);
+    oracle_line::write_affine(answer, a, b)
 }

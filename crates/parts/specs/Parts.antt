@@ -1,18 +1,16 @@
 -- Parts of a text. A place past its end is its end.
-use Rattle.std.specs.Prelude.{ℕ, cond, List, [], ◌∷◌, leb, length, take, drop}
-use Rattle.ids.specs.declared.lookup.Found.{Found}
-use Rattle.ids.specs.declared.lookup.Found.TheVariants.{At, Nothing}
+use Rattle.std.specs.Prelude.{ℕ, cond, List, [], ◌∷◌, leb, length, take, drop, Option, Some, None}
 use Rattle.text_runs.specs.Runs.{last_byte}
 
 -- the text before the place, or the other text
-abbrev pub up_to : Found → List ℕ → List ℕ → List ℕ
-up_to (At k) s t = take k s
-up_to Nothing s t = t
+abbrev pub up_to : Option ℕ → List ℕ → List ℕ → List ℕ
+up_to (Some k) s t = take k s
+up_to None s t = t
 
 -- the text from n bytes after the place on, or the other text
-abbrev pub past : ℕ → Found → List ℕ → List ℕ → List ℕ
-past n (At k) s t = drop n (drop k s)
-past n Nothing s t = t
+abbrev pub past : ℕ → Option ℕ → List ℕ → List ℕ → List ℕ
+past n (Some k) s t = drop n (drop k s)
+past n None s t = t
 
 -- the text after the last byte b, or all of it
 abbrev pub after_last : ℕ → List ℕ → List ℕ

@@ -2,8 +2,6 @@
 ghost use Rattle.std.specs.Prelude.{◌≡◌, [], take, drop};
 ghost use Rattle.parts.specs.Parts.{up_to, past, after_last, if_long};
 
-use ids::Found;
-
 // The first n bytes.
 pub fn first<'a>(s: &'a [u8], n: usize) -> &'a [u8]
     ensures { result.now ≡ take n s.now }
@@ -22,22 +20,22 @@ pub fn from<'a>(s: &'a [u8], n: usize) -> &'a [u8]
 }
 
 // The text before the place, or none.
-pub fn before<'a>(s: &'a [u8], place: Found) -> &'a [u8]
+pub fn before<'a>(s: &'a [u8], place: Option<usize>) -> &'a [u8]
     ensures { result.now ≡ up_to place s.now [] }
 {
     match place {
-        Found::At(k) => first(s, k),
-        Found::Nothing => &s[..0],
+        Some(k) => first(s, k),
+        None => &s[..0],
     }
 }
 
 // The text from n bytes after the place on, or none.
-pub fn past_place<'a>(s: &'a [u8], place: Found, n: usize) -> &'a [u8]
+pub fn past_place<'a>(s: &'a [u8], place: Option<usize>, n: usize) -> &'a [u8]
     ensures { result.now ≡ past n place s.now [] }
 {
     match place {
-        Found::At(k) => from(from(s, k), n),
-        Found::Nothing => &s[..0],
+        Some(k) => from(from(s, k), n),
+        None => &s[..0],
     }
 }
 
@@ -46,8 +44,8 @@ pub fn after_last<'a>(s: &'a [u8], byte: u8) -> &'a [u8]
     ensures { result.now ≡ after_last byte s.now }
 {
     match text_runs::last_of(s, byte) {
-        Found::At(k) => from(from(s, k), 1),
-        Found::Nothing => s,
+        Some(k) => from(from(s, k), 1),
+        None => s,
     }
 }
 

@@ -1,8 +1,8 @@
 -- How a leg is drawn, and which path is chosen: without the fraction. Definitions only.
-use Rattle.std.specs.Prelude.{cond, List, [], ◌∷◌, ltb, Float, length}
+use Rattle.unit_scales.specs.declared.metres.Affine.{Affine}
+use Rattle.spans.specs.declared.span.Span.{Span}
+use Rattle.std.specs.Prelude.{cond, List, [], ◌∷◌, ltb, Float, length, Option, Some, None}
 use Rattle.lengths.specs.declared.line.Point.{Point}
-use Rattle.unit_scales.specs.declared.metres.Calibrated.{Calibrated}
-use Rattle.unit_scales.specs.declared.metres.Calibrated.TheVariants.{By, Nothing as Uncalibrated}
 use Rattle.line_parts.specs.Part.{whole_of}
 use Rattle.line_parts.specs.declared.part.Part.{Part}
 use Rattle.stretches.specs.declared.spot.Spot.{Spot}
@@ -11,15 +11,11 @@ use Rattle.ways.specs.declared.way.Way.{Way}
 use Rattle.ways.specs.declared.way.Way.TheVariants.{With}
 use Rattle.spans.specs.Span.{span_of, feed_metres}
 use Rattle.by_distance.specs.Interpolate.{spot_over}
-use Rattle.spans.specs.declared.span.Spanned.{Spanned}
-use Rattle.spans.specs.declared.span.Spanned.TheVariants.{Over, Short}
 use Rattle.routes.specs.Route.{route_of, along_of}
 use Rattle.polylines.specs.Polyline.{spot_along}
 use Rattle.stop_routes.specs.Routed.{route_between}
 use Rattle.stop_routes.specs.declared.between.Routed.{Routed}
 use Rattle.stop_routes.specs.declared.between.Routed.TheVariants.{Over as Routed·over, Nothing as Routed·nothing}
-use Rattle.paths.specs.declared.path.Mark.{Mark}
-use Rattle.paths.specs.declared.path.Mark.TheVariants.{At, Nothing}
 use Rattle.paths.specs.declared.path.Path.{Path}
 use Rattle.paths.specs.declared.path.Path.TheVariants.{ByDistance, Polyline, Chain, Straight}
 use Rattle.paths.specs.declared.path.Line.{Line}
@@ -30,16 +26,16 @@ use Rattle.paths.specs.declared.status.Status.TheVariants.{OnShape, OnStopChain,
 -- ---- the choice
 
 -- the span between two distances of a feed; short where one is missing, or the calibration
-abbrev pub feed_span : Calibrated → Mark → Mark → Spanned
-feed_span Uncalibrated d₀ d₁ = Short
-feed_span (By c) Nothing d₁ = Short
-feed_span (By c) (At d₀) Nothing = Short
-feed_span (By c) (At d₀) (At d₁) = span_of (feed_metres c.a c.b d₀) (feed_metres c.a c.b d₁)
+abbrev pub feed_span : Option Affine → Option Float → Option Float → Option Span
+feed_span None d₀ d₁ = None
+feed_span (Some c) None d₁ = None
+feed_span (Some c) (Some d₀) None = None
+feed_span (Some c) (Some d₀) (Some d₁) = span_of (feed_metres c.a c.b d₀) (feed_metres c.a c.b d₁)
 
 -- by distance, unless the span is short
-abbrev pub over_span : Spanned → Path → Path
-over_span (Over span) other = ByDistance span
-over_span Short other = other
+abbrev pub over_span : Option Span → Path → Path
+over_span (Some span) other = ByDistance span
+over_span None other = other
 
 -- along the route, if there is one
 abbrev pub over_route : Routed → Path → Path
@@ -51,7 +47,7 @@ abbrev pub over_chain : List Point → Path
 over_chain chain = Chain (route_of chain (whole_of chain))
 
 -- A leg of a trip that is found: on a shape of two points or more by distance, else between the nearest vertices; and else along the stops between. A leg of no trip is straight.
-unfoldable pub path_of : List Point → Calibrated → Mark → Mark → List Point → Point → Point → Path
+unfoldable pub path_of : List Point → Option Affine → Option Float → Option Float → List Point → Point → Point → Path
 path_of shape calibrated d₀ d₁ chain from to =
     cond (ltb (length shape) 2) (over_chain chain) (over_span (feed_span calibrated d₀ d₁) (over_route (route_between shape from to) (over_chain chain)))
 

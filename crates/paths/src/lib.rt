@@ -6,5 +6,5 @@
 mod path; // how a leg is drawn
 mod status; // what is told of a ferry
 
-pub use path::{End, Line, Mark, Path, feed_span, path_kind, path_status, path_way};
+pub use path::{End, Line, Path, feed_span, path_kind, path_status, path_way};
 pub use status::Status;

@@ -5,8 +5,8 @@ ghost use Rattle.paths.specs.Path.{feed_span, path_kind, path_status, path_way};
 use crate::status::Status;
 use lengths::Point;
 use routes::Route;
-use spans::{Span, Spanned, feed_metres, span_of};
-use unit_scales::Calibrated;
+use spans::{Span, feed_metres, span_of};
+use unit_scales::Affine;
 use ways::Way;
 
 // An end of a leg: a call, or the static stop before the first call.
@@ -14,13 +14,6 @@ use ways::Way;
 pub struct End {
     pub sequence: u32,
     pub at: Point,
-}
-
-// The distance along the shape that the timetable has for a stop, in the feed's own unit.
-#[derive(Clone, Copy)]
-pub enum Mark {
-    At(f32),
-    Nothing,
 }
 
 // How a leg is drawn, chosen without the fraction.
@@ -37,7 +30,7 @@ pub enum Path {
 }
 
 // What a place's vertices are counted over.
-#[derive(Clone, Copy)]
+#[derive(Clone, Copy, Debug, PartialEq, Eq)]
 pub enum Line {
     // The whole shape.
     Shape,
@@ -48,18 +41,12 @@ pub enum Line {
 }
 
 // The span between two distances of a feed; short where one is missing, or the calibration.
-pub fn feed_span(calibrated: Calibrated, d0: Mark, d1: Mark) -> Spanned
+pub fn feed_span(calibrated: Option<Affine>, d0: Option<f32>, d1: Option<f32>) -> Option<Span>
     ensures { result ≡ feed_span calibrated d0 d1 }
 {
-    let Calibrated::By(by) = calibrated else {
-        return Spanned::Short;
-    };
-    let Mark::At(from) = d0 else {
-        return Spanned::Short;
-    };
-    let Mark::At(to) = d1 else {
-        return Spanned::Short;
-    };
+    let by = calibrated?;
+    let from = d0?;
+    let to = d1?;
     span_of(feed_metres(by.a, by.b, from), feed_metres(by.a, by.b, to))
 }
 

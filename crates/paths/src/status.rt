@@ -1,5 +1,5 @@
 // What is told of a ferry beside her position.
-#[derive(Clone, Copy)]
+#[derive(Clone, Copy, Debug, PartialEq, Eq)]
 pub enum Status {
     StoppedAt,
     IncomingAt,

@@ -1,14 +1,13 @@
 -- What the trip of a sailing comes to where nothing is refused: its rows are few, and it may be matched. Assumes nothing.
+use Rattle.std.specs.Prelude.{Option, Some, None}
 use Prim.Native.Nat.{ℕ, ◌+◌, ◌<◌, ◌≤◌}
 use native.Mathlib.Omega.{arith}
 use mathlib.Core.Path.{◌≡◌, refl, subst}
 use mathlib.Core.List.{List}
 use lib.ListN.{length}
-use Rattle.ids.specs.declared.lookup.Found.{Found}
-use Rattle.ids.specs.declared.lookup.Found.TheVariants.{At, Nothing}
 use Rattle.tables.specs.Pools.{Pools}
 use Rattle.tables.specs.Bounds.{chart_bounds}
-use Rattle.refusals.specs.Refuse.{refusal_of}
+use Rattle.verdicts.specs.Refuse.{refusal_of}
 use Rattle.tables.specs.declared.lent.Tables.{Tables}
 use Rattle.checks.specs.Operations.{estimate_causes}
 use Rattle.matching.specs.Matching.{Ready}
@@ -32,12 +31,12 @@ module _ (p : Pools) (t : Tables) (e : refusal_of p (estimate_causes chart_bound
   pub matchable : Ready p.bytes p.words (named_of t) (plan_of t) × (InTime (first_departure p.bytes t.updates p.times) × InReach (local_at (first_departure p.bytes t.updates p.times) (offset_of p.times t.sailing)))
   matchable = (trip_ready p t e, (first_in_time p t e, first_in_reach p t e))
 
-  few : (trip : Found) → sailing_trip p.bytes p.words p.times t ≡ trip → leg_count p.words (course_of t) trip ≤ 1000000
-  few (At k) f = omega (arith, trip_rows p t e k (sailing_trip_is p t e k f), rows_few p t e)
-  few Nothing f = omega arith
+  few : (trip : Option ℕ) → sailing_trip p.bytes p.words p.times t ≡ trip → leg_count p.words (course_of t) trip ≤ 1000000
+  few (Some k) f = omega (arith, trip_rows p t e k (sailing_trip_is p t e k f), rows_few p t e)
+  few None f = omega arith
 
   -- its rows are no more than a million
-  pub leg_few : (trip : Found) → trip ≡ sailing_trip p.bytes p.words p.times t → leg_count p.words (course_of t) trip ≤ 1000000
+  pub leg_few : (trip : Option ℕ) → trip ≡ sailing_trip p.bytes p.words p.times t → leg_count p.words (course_of t) trip ≤ 1000000
   leg_few trip f = rw f (few (sailing_trip p.bytes p.words p.times t) refl)
 
 -- the call of a turn is one of the calls

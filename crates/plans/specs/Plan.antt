@@ -1,8 +1,6 @@
 -- The voyage that the lent tables come to, without the clock: its calls, its legs, and where she is pinned without a call. Definitions only.
-use Rattle.std.specs.Prelude.{ℕ, ◌+◌, List, Float, get_or}
+use Rattle.std.specs.Prelude.{ℕ, ◌+◌, List, Float, get_or, Option, Some, None}
 use Rattle.ids.specs.Pool.{cell_of}
-use Rattle.ids.specs.declared.lookup.Found.{Found}
-use Rattle.ids.specs.declared.lookup.Found.TheVariants.{At, Nothing}
 use Rattle.tables.specs.Pools.{Pools}
 use Rattle.tables.specs.declared.lent.Tables.{Tables}
 use Rattle.trip_rows.specs.Rows.{stop_point}
@@ -27,7 +25,7 @@ abbrev pub row_end : List ℕ → List Float → Tables → ℕ → End
 row_end words reals t row = record { sequence = cell_of words t.times.sequence row; at = stop_point reals t.stops (cell_of words t.times.stop row) }
 
 -- ---- the legs
-module _ (bytes words : List ℕ) (reals dists : List Float) (t : Tables) (trip : Found) where
+module _ (bytes words : List ℕ) (reals dists : List Float) (t : Tables) (trip : Option ℕ) where
   -- the leg between two ends, along the path of the trip
   unfoldable pub leg_between : End → End → Leg
   leg_between from to =
@@ -40,10 +38,10 @@ module _ (bytes words : List ℕ) (reals dists : List Float) (t : Tables) (trip 
       }
 
   -- the leg from a row to an end, if there is one, in the seconds that the schedule has for it
-  abbrev pub approach_from : Found → End → Approach
-  approach_from (At row) to =
+  abbrev pub approach_from : Option ℕ → End → Approach
+  approach_from (Some row) to =
       over (leg_between (row_end words reals t row) to) (run_of words t.trips t.times trip (cell_of words t.times.sequence row) to.sequence)
-  approach_from Nothing to = none
+  approach_from None to = none
 
   -- from the static stop before a call
   unfoldable pub approach_to : End → ℕ → Approach
@@ -51,18 +49,18 @@ module _ (bytes words : List ℕ) (reals dists : List Float) (t : Tables) (trip 
 
 -- ---- without a call
 -- the stop of an update, if it is found, as a pin
-abbrev pub pin_of : List ℕ → List Float → Tables → ℕ → Found → Pin
-pin_of words reals t row (At stop) = pinned stop (cell_of words t.updates.sequence row) (stop_point reals t.stops stop)
-pin_of words reals t row Nothing = unplaced
+abbrev pub pin_of : List ℕ → List Float → Tables → ℕ → Option ℕ → Pin
+pin_of words reals t row (Some stop) = pinned stop (cell_of words t.updates.sequence row) (stop_point reals t.stops stop)
+pin_of words reals t row None = unplaced
 
 -- that of the row that serves best
-abbrev pub pin_at : List ℕ → List ℕ → List Float → Tables → Found → Pin
-pin_at bytes words reals t (At row) = pin_of words reals t row (update_stop bytes words (reported_of t) row)
-pin_at bytes words reals t Nothing = unplaced
+abbrev pub pin_at : List ℕ → List ℕ → List Float → Tables → Option ℕ → Pin
+pin_at bytes words reals t (Some row) = pin_of words reals t row (update_stop bytes words (reported_of t) row)
+pin_at bytes words reals t None = unplaced
 
 -- ---- the voyage
 -- of calls with these rows, stops and moments, and of this static trip
-unfoldable pub voyage_from : Pools → Tables → Found → List ℕ → List ℕ → List ℕ → List ℕ → Voyage
+unfoldable pub voyage_from : Pools → Tables → Option ℕ → List ℕ → List ℕ → List ℕ → List ℕ → Voyage
 voyage_from p t trip rows stops arrs deps =
     let end = call_end p.words p.reals t rows stops in
     record {

@@ -5,7 +5,6 @@ ghost use Rattle.leg_paths.specs.Leg.{leg_count};
 ghost use Rattle.plans.specs.Plan.{course_of, leg_between};
 
 use courses::Course;
-use ids::Found;
 use leg_paths::path_of;
 use legs::Walked;
 use paths::End;
@@ -38,7 +37,7 @@ pub(crate) fn walk_leg(
     dists: &[f32],
     t: Tables,
     leg: u32,
-    trip: Found,
+    trip: Option<usize>,
     from: End,
     to: End,
     frac: f64,

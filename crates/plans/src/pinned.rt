@@ -7,7 +7,7 @@ ghost use Rattle.voyages.specs.Outcome.{at_pin};
 
 use best_rows::best_row;
 use calls::{Reported, update_stop};
-use ids::{Found, cell};
+use ids::cell;
 use paths::Status;
 use stop_rows::Lookup;
 use tables::Tables;
@@ -40,10 +40,10 @@ pub fn reported(t: Tables) -> Reported
 }
 
 // At the stop of a row of the updates, if it is found.
-fn at_row(words: &[u32], reals: &[f64], t: Tables, row: usize, stop: Found) -> Outcome
+fn at_row(words: &[u32], reals: &[f64], t: Tables, row: usize, stop: Option<usize>) -> Outcome
     ensures { result ≡ at_pin (pin_of words.now reals.now t row stop) }
 {
-    let Found::At(stop) = stop else {
+    let Some(stop) = stop else {
         return Outcome::Silence;
     };
     let s = t.stops;
@@ -63,7 +63,7 @@ pub fn pin(bytes: &[u8], words: &[u32], reals: &[f64], t: Tables) -> Outcome
     ensures { result ≡ at_pin (pin_at bytes.now words.now reals.now t (best_row bytes.now t.updates words.now)) }
 {
     let updates = t.updates;
-    let Found::At(row) = best_row(bytes, words, updates) else {
+    let Some(row) = best_row(bytes, words, updates) else {
         return Outcome::Silence;
     };
     at_row(

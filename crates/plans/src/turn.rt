@@ -2,7 +2,7 @@
 ghost use Rattle.std.specs.Prelude.{◌≡◌, ◌+◌, ◌<◌, ◌≤◌, length};
 ghost use Rattle.tables.specs.Pools.{pools};
 ghost use Rattle.tables.specs.Bounds.{chart_bounds};
-ghost use Rattle.refusals.specs.Refuse.{refusal_of};
+ghost use Rattle.verdicts.specs.Refuse.{refusal_of};
 ghost use Rattle.checks.specs.Operations.{estimate_causes};
 ghost use Rattle.sailings.specs.Sailing.{sailing_trip};
 ghost use Rattle.timeline.specs.Turn.{turn_of};
@@ -14,9 +14,8 @@ ghost use Rattle.plans.specs.Plan.{course_of, row_end, approach_from, voyage_fro
 use crate::leg::walk_leg;
 use call_places::{at_call, call_end, departed};
 use fractions::{approach_fraction, incoming, leg_fraction};
-use ids::{Found, cell, word};
+use ids::{cell, word};
 use legs::Walked;
-use line_parts::less;
 use paths::{End, Status};
 use previous::previous_row;
 use sailings::sailing_trip;
@@ -47,7 +46,7 @@ fn under_way(
     reals: &[f64],
     dists: &[f32],
     t: Tables,
-    trip: Found,
+    trip: Option<usize>,
     rows: &[u32],
     stops: &[u32],
     arrivals: &[u64],
@@ -96,18 +95,18 @@ fn approach_from(
     reals: &[f64],
     dists: &[f32],
     t: Tables,
-    trip: Found,
+    trip: Option<usize>,
     rows: &[u32],
     stops: &[u32],
     arrivals: &[u64],
     departures: &[u64],
     clock: u64,
-    before: Found,
+    before: Option<usize>,
 ) -> Outcome
     requires { leg_count words.now (course_of t) trip ≤ 1000000 }
     ensures { result ≡ approaching (voyage_from (pools bytes.now words.now times.now reals.now dists.now) t trip rows.now stops.now arrivals.now departures.now) clock (approach_from bytes.now words.now reals.now dists.now t trip before (call_end words.now reals.now t rows.now stops.now 0)) }
 {
-    let Found::At(row) = before else {
+    let Some(row) = before else {
         return at_call(words, reals, t, rows, stops, 0, Status::IncomingAt);
     };
     let trips = t.trips;
@@ -186,7 +185,7 @@ pub fn at_turn(
             bytes, words, times, reals, dists, t, rows, stops, arrivals, departures, clock,
         ),
         Turn::After => {
-            let last = less(arrivals.len(), 1);
+            let last = arrivals.len().saturating_sub(1);
             at_call(words, reals, t, rows, stops, last, Status::StoppedAt)
         }
     }

@@ -7,7 +7,7 @@ use borrow.Author.Tests.{eq-eqb, ne_eqb, lt-ltb, le-ltb}
 use lib.Ieee.{Float}
 use lib.ListN.{length, length-map, drop}
 use Rattle.lengths.specs.declared.line.Point.{Point}
-use Rattle.measure.specs.Answer.{Answer, refused, given}
+use Rattle.refusals.specs.Answer.{Answer, refused, given}
 use Rattle.point_columns.specs.Drawn.{lats_of, lons_of}
 use Rattle.point_columns.specs.Answers.{drawing_refusal, drawn_answer, lat_after, lon_after}
 

@@ -1,4 +1,5 @@
 -- Points drawn one by one into two columns. Assumes nothing.
+use Rattle.std.specs.Prelude.{Option, Some, None}
 use Prim.Native.Nat.{ℕ, zero, suc, ◌+◌, ◌<◌, ◌≤◌}
 use native.Mathlib.Omega.{arith}
 use mathlib.Core.Path.{◌≡◌, refl, sym, ap, ◌∙◌}
@@ -10,8 +11,6 @@ use lib.Seq.{paste, paste-suc, take_all}
 use Rattle.ids.proofs.ByteOrder.{clash}
 use Rattle.lengths.specs.Line.{nowhere}
 use Rattle.lengths.specs.declared.line.Point.{Point}
-use Rattle.projection.specs.declared.cursor.Position.{Position}
-use Rattle.projection.specs.declared.cursor.Position.TheVariants.{Known, Missing}
 use Rattle.point_columns.specs.Drawn.{next_of, later_of, before, drawn_from, lats_of, lons_of, lat_put, lon_put, row_after}
 
 -- the element at k, and those after it
@@ -49,7 +48,7 @@ module _ {A : Type 0} (vs out₀ : List A) where
   all_of_them k l = ap (λ (ws : List A). ws ++ drop k out₀) (take_all k vs l)
 
 -- Where a drawing stands: `points` are all that it has to draw, the columns were lat₀ and lon₀, and these positions are still to come.
-pub record Drawn (differ : Point → Point → Bool) (points : List Point) (lat₀ lon₀ : List Float) (rest : List Position) (lat lon : List Float) (last : Position) (k : ℕ) : Type 0 where
+pub record Drawn (differ : Point → Point → Bool) (points : List Point) (lat₀ lon₀ : List Float) (rest : List (Option Point)) (lat lon : List Float) (last : Option Point) (k : ℕ) : Type 0 where
   pub so_far : k ≤ length points
   pub left : drop k points ≡ drawn_from differ last rest
   pub lat_long : length lat ≡ length lat₀
@@ -58,18 +57,18 @@ pub record Drawn (differ : Point → Point → Bool) (points : List Point) (lat�
   pub lon_begun : length points ≤ length lon₀ → lon ≡ begun (lons_of points) lon₀ k
 
 module _ (differ : Point → Point → Bool) where
-  pub starts : (stops : List Position) (lat lon : List Float) → Drawn differ (drawn_from differ Missing stops) lat lon stops lat lon Missing 0
+  pub starts : (stops : List (Option Point)) (lat lon : List Float) → Drawn differ (drawn_from differ None stops) lat lon stops lat lon None 0
   starts stops lat lon = record { so_far = omega arith; left = refl; lat_long = refl; lon_long = refl; lat_begun = λ h. refl; lon_begun = λ h. refl }
 
-  module _ {points : List Point} {lat₀ lon₀ : List Float} {lat lon : List Float} {last : Position} {k : ℕ} where
+  module _ {points : List Point} {lat₀ lon₀ : List Float} {lat lon : List Float} {last : Option Point} {k : ℕ} where
     -- one position more
-    pub goes_on : (s : Position) {rest : List Position} → Drawn differ points lat₀ lon₀ (s ∷ rest) lat lon last k → {drawn : Position} → drawn ≡ next_of differ last s →
+    pub goes_on : (s : Option Point) {rest : List (Option Point)} → Drawn differ points lat₀ lon₀ (s ∷ rest) lat lon last k → {drawn : Option Point} → drawn ≡ next_of differ last s →
         Drawn differ points lat₀ lon₀ rest (lat_put lat k drawn) (lon_put lon k drawn) (later_of last drawn) (row_after drawn k)
     unfolding drawn_from
     goes_on s {rest} f {drawn} e = go drawn (f.left ∙ rw (← e)) where
-      go : (d : Position) → drop k points ≡ before d (drawn_from differ (later_of last d) rest) →
+      go : (d : Option Point) → drop k points ≡ before d (drawn_from differ (later_of last d) rest) →
           Drawn differ points lat₀ lon₀ rest (lat_put lat k d) (lon_put lon k d) (later_of last d) (row_after d k)
-      go (Known p) q =
+      go (Some p) q =
           let l = below points k q in
           record {
             so_far = omega arith;
@@ -79,7 +78,7 @@ module _ (differ : Point → Point → Bool) where
             lat_begun = λ h. rw (f.lat_begun h, ← at_head nowhere points k q) (rw (← get_or-map (λ (v : Point). v.lat) points k nowhere) (one_more (lats_of points) lat₀ _ k (omega arith) (simp length-map l)));
             lon_begun = λ h. rw (f.lon_begun h, ← at_head nowhere points k q) (rw (← get_or-map (λ (v : Point). v.lon) points k nowhere) (one_more (lons_of points) lon₀ _ k (omega arith) (simp length-map l)));
           }
-      go Missing q = record { so_far = f.so_far; left = q; lat_long = f.lat_long; lon_long = f.lon_long; lat_begun = f.lat_begun; lon_begun = f.lon_begun }
+      go None q = record { so_far = f.so_far; left = q; lat_long = f.lat_long; lon_long = f.lon_long; lat_begun = f.lat_begun; lon_begun = f.lon_begun }
 
     -- none more: the row is as many as the points, and all are written where the columns have room
     module _ (f : Drawn differ points lat₀ lon₀ [] lat lon last k) where

@@ -1,7 +1,7 @@
 -- What an operation that draws points answers, and its two columns afterwards. Definitions only.
 use Rattle.std.specs.Prelude.{ℕ, cond, List, eqb, Float, length}
 use Rattle.lengths.specs.declared.line.Point.{Point}
-use Rattle.measure.specs.Answer.{Answer, refused, given}
+use Rattle.refusals.specs.Answer.{Answer, refused, given}
 use Rattle.answers.specs.Answers.{unless_refused, or_short, unless_kept}
 use Rattle.point_columns.specs.Drawn.{lats_of, lons_of}
 use Rattle.point_columns.specs.declared.point.Drawing.{Drawing}

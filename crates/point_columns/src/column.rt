@@ -5,10 +5,9 @@ ghost use Rattle.std.specs.Prelude.{◌≡◌, ◌++◌, ◌≤◌, length, drop
 pub(crate) fn put_row(out: &mut [f64], k: usize, x: f64)
     ensures { out.new ≡ set out.old k x }
 {
-    if out.len() <= k {
-        return;
+    if k < out.len() {
+        out[k] = x;
     }
-    out[k] = x;
 }
 
 // Writes rows from the column's beginning on.
@@ -16,9 +15,5 @@ pub fn put_rows(rows: &[f64], out: &mut [f64])
     requires { length rows.now ≤ length out.old }
     ensures { out.new ≡ rows.now ++ drop (length rows.now) out.old }
 {
-    let mut k = 0;
-    while k < rows.len() {
-        out[k] = rows[k];
-        k += 1;
-    }
+    out[..rows.len()].copy_from_slice(rows);
 }

@@ -3,7 +3,7 @@ ghost use Rattle.std.specs.Prelude.{◌≡◌, ◌<◌};
 ghost use Rattle.point_columns.specs.Drawn.{later_of, row_after, lat_put, lon_put};
 
 use crate::column::put_row;
-use projection::Position;
+use lengths::Point;
 
 // What an operation that draws answers.
 #[derive(Clone, Copy)]
@@ -15,23 +15,23 @@ pub enum Drawing {
 }
 
 // The last point drawn, with one more if there is one.
-pub fn later(last: Position, drawn: Position) -> Position
+pub fn later(last: Option<Point>, drawn: Option<Point>) -> Option<Point>
     ensures { result ≡ later_of last drawn }
 {
     match drawn {
-        Position::Known(_) => drawn,
-        Position::Missing => last,
+        Some(_) => drawn,
+        None => last,
     }
 }
 
 // Writes a point, if there is one, to row k, as far as the columns have it. Answers the row of the next.
-pub fn put(lat: &mut [f64], lon: &mut [f64], k: usize, drawn: Position) -> usize
+pub fn put(lat: &mut [f64], lon: &mut [f64], k: usize, drawn: Option<Point>) -> usize
     requires { k < 18446744073709551615 }
     ensures value { result ≡ row_after drawn k }
     ensures lat_after { lat.new ≡ lat_put lat.old k drawn }
     ensures lon_after { lon.new ≡ lon_put lon.old k drawn }
 {
-    let Position::Known(p) = drawn else {
+    let Some(p) = drawn else {
         return k;
     };
     put_row(lat, k, p.lat);

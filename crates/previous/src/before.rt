@@ -4,7 +4,7 @@ ghost use Rattle.std.specs.Prelude.{◌≡◌};
 ghost use Rattle.previous.specs.Before.{limit_row, prev_row};
 
 use crate::search::{first_from, first_target, last_placed};
-use ids::{Found, cell};
+use ids::cell;
 use tables::{StopTimes, Stops, Trips};
 
 // The row that the stop before is looked for before: the call's, or else the first from its sequence on, or else the end of the trip's.
@@ -21,11 +21,11 @@ fn limit_row(
     ensures { result ≡ limit_row bytes.now words.now times stops sequence stop from n }
 {
     let target = first_target(bytes, words, times, stops, sequence, stop, from, n);
-    if let Found::At(row) = target {
+    if let Some(row) = target {
         return row;
     }
     let later = first_from(words, times, sequence, from, n);
-    if let Found::At(row) = later {
+    if let Some(row) = later {
         return row;
     }
     from as usize + n as usize
@@ -38,14 +38,14 @@ pub fn previous_row(
     trips: Trips,
     times: StopTimes,
     stops: Stops,
-    trip: Found,
+    trip: Option<usize>,
     sequence: u32,
     stop: usize,
-) -> Found
+) -> Option<usize>
     ensures { result ≡ prev_row bytes.now words.now trips times stops trip sequence stop }
 {
-    let Found::At(trip) = trip else {
-        return Found::Nothing;
+    let Some(trip) = trip else {
+        return None;
     };
     let firsts = trips.first;
     let counts = trips.count;

@@ -2,11 +2,11 @@
 ghost use Rattle.std.specs.Prelude.{◌≡◌, ◌-◌};
 ghost use Rattle.row_tests.specs.Rows.{first_row, last_row, is_placed, placed_target, is_from};
 
-use ids::Found;
 use row_tests::{from_sequence, placed, placed_target};
 use tables::{StopTimes, Stops};
 
 // The first of n rows that is the call, and positioned.
+#[tactic(auto, using(ids::proofs::Search::first_miss))]
 pub fn first_target(
     bytes: &[u8],
     words: &[u32],
@@ -16,38 +16,40 @@ pub fn first_target(
     stop: usize,
     from: u32,
     n: u32,
-) -> Found
+) -> Option<usize>
     ensures { result ≡ first_row (placed_target bytes.now words.now times stops sequence stop) from n }
 {
-    let rows = n as usize;
-    let mut k = 0;
-    while k < rows {
+    for k in 0..n as usize {
         let row = from as usize + k;
         if placed_target(bytes, words, times, stops, sequence, stop, row) {
-            return Found::At(row);
+            return Some(row);
         }
-        k += 1;
     }
-    Found::Nothing
+    None
 }
 
 // The first of n rows from the sequence on.
-pub fn first_from(words: &[u32], times: StopTimes, sequence: u32, from: u32, n: u32) -> Found
+#[tactic(auto, using(ids::proofs::Search::first_miss))]
+pub fn first_from(
+    words: &[u32],
+    times: StopTimes,
+    sequence: u32,
+    from: u32,
+    n: u32,
+) -> Option<usize>
     ensures { result ≡ first_row (is_from words.now times sequence) from n }
 {
-    let rows = n as usize;
-    let mut k = 0;
-    while k < rows {
+    for k in 0..n as usize {
         let row = from as usize + k;
         if from_sequence(words, times, sequence, row) {
-            return Found::At(row);
+            return Some(row);
         }
-        k += 1;
     }
-    Found::Nothing
+    None
 }
 
 // The last positioned row before `end`.
+#[tactic(auto, using(row_tests::proofs::Rows::row_hit, row_tests::proofs::Rows::row_skip, row_tests::proofs::Rows::row_miss))]
 pub fn last_placed(
     bytes: &[u8],
     words: &[u32],
@@ -55,16 +57,13 @@ pub fn last_placed(
     stops: Stops,
     from: u32,
     end: usize,
-) -> Found
+) -> Option<usize>
     ensures { result ≡ last_row (is_placed bytes.now words.now times stops) from (end - from) }
 {
-    let start = from as usize;
-    let mut row = end;
-    while start < row {
-        row -= 1;
+    for row in (from as usize..end).rev() {
         if placed(bytes, words, times, stops, row) {
-            return Found::At(row);
+            return Some(row);
         }
     }
-    Found::Nothing
+    None
 }

@@ -1,6 +1,6 @@
 // The maths, lengths and bearings.
-use measure::Measured;
 use probe_pools::write::double_line;
+use refusals::Refusal;
 use std::io;
 
 // The arc tangent is document 01's, for an argument in 0..1; a NaN is not in it.
@@ -13,9 +13,13 @@ pub(crate) fn atan(out: &impl Print, x: f64) -> io::Result<()> {
     case_answers::print_none(out)
 }
 
-pub(crate) fn print_measured(out: &impl Print, err: &impl Print, m: Measured) -> io::Result<()> {
-    match m {
-        Measured::Value(x) => double_line(out, x),
-        Measured::OffGlobe => case_answers::print_refusal(out, err, 3),
+pub(crate) fn print_measured(
+    out: &impl Print,
+    err: &impl Print,
+    measured: Result<f64, Refusal>,
+) -> io::Result<()> {
+    match measured {
+        Ok(x) => double_line(out, x),
+        Err(refusal) => case_answers::print_refusal(out, err, refusal.number()),
     }
 }

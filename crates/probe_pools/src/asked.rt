@@ -1,23 +1,35 @@
 // Where what is asked stands in the pools, after the case's columns.
-use case_tables::{layout, limits, put};
-use ids::{Found, IdColumn};
+use case_tables::{IdPlace, layout, limits, put};
+use ids::IdColumn;
 use tables::{IdRows, StopTimes, Stops, Tables, Trips};
 
 // The words: a column of plain ids, as long as the stops, which stands for ids that a query is not lent; then the length of the journey's key, a service's
 // feed and id and its date, the row of the trip asked of, and its id.
-pub const PLAIN: u32 = layout::WORDS;
+pub const PLAIN: IdPlace = IdPlace {
+    at: layout::WORDS,
+    rows: limits::STOPS,
+};
 
-pub const KEY_LENGTH: u32 = PLAIN + 2 * limits::STOPS;
+pub const KEY_LENGTH: u32 = PLAIN.at + 2 * limits::STOPS;
 
-pub const FEED: u32 = KEY_LENGTH + 1;
+pub const FEED: IdPlace = IdPlace {
+    at: KEY_LENGTH + 1,
+    rows: 1,
+};
 
-pub const SERVICE: u32 = FEED + 2;
+pub const SERVICE: IdPlace = IdPlace {
+    at: FEED.at + 2,
+    rows: 1,
+};
 
-pub const DATE: u32 = SERVICE + 2;
+pub const DATE: u32 = SERVICE.at + 2;
 
 pub const TRIP_ROW: u32 = DATE + 1;
 
-pub const TRIP: u32 = TRIP_ROW + 1;
+pub const TRIP: IdPlace = IdPlace {
+    at: TRIP_ROW + 1,
+    rows: 1,
+};
 
 // The bytes: whether the journey departs, the plain id, a service's feed and id, and the trip's id.
 pub const DEPARTS: u32 = layout::BYTES;
@@ -47,55 +59,33 @@ pub const PAIR: u32 = SAMPLE_DIST + limits::CALLS;
 
 // Fills the column of plain ids.
 pub fn plain_ids(bytes: &mut [u8], words: &mut [u32]) {
-    put::byte(bytes, PLAIN_BYTE, 0, b'x');
-    let mut k = 0;
-    while k < limits::STOPS {
-        put::word(words, PLAIN, k, PLAIN_BYTE);
-        put::word(words, PLAIN + limits::STOPS, k, 1);
-        k += 1;
+    put(bytes, PLAIN_BYTE, 0, b'x');
+    for k in 0..limits::STOPS {
+        put(words, PLAIN.at, k, PLAIN_BYTE);
+        put(words, PLAIN.lengths(), k, 1);
     }
 }
 
 // Puts an id of a query where it is asked of.
-pub fn put_id(bytes: &mut [u8], words: &mut [u32], place: u32, column: u32, s: &[u8]) {
-    let Found::At(n) = case_ids::put_id(bytes, place as usize, limits::ID as usize, s) else {
-        return;
-    };
-    put::word(words, column, 0, place);
-    put::word(words, column, 1, (n % 256) as u32);
+pub fn put_id(bytes: &mut [u8], words: &mut [u32], place: u32, column: IdPlace, s: &[u8]) {
+    if let Some(n) = case_ids::put_id(bytes, place as usize, limits::ID as usize, s) {
+        put(words, column.at, 0, place);
+        put(words, column.lengths(), 0, n as u32);
+    }
 }
 
 // So many plain ids.
 pub fn plain(n: u32) -> IdColumn {
-    case_tables::id_column(PLAIN, limits::STOPS, n)
+    PLAIN.column(n)
 }
 
 // The tables with other stops, trips, trip ids and stop times.
 pub fn relent(t: Tables, stops: Stops, trips: Trips, tripkeys: IdRows, times: StopTimes) -> Tables {
-    let stopkeys = t.stopkeys;
-    let shapes = t.shapes;
-    let points = t.points;
-    let aliases = t.aliases;
-    let lines = t.lines;
-    let calendars = t.calendars;
-    let ranges = t.ranges;
-    let exceptions = t.exceptions;
-    let updates = t.updates;
-    let sailing = t.sailing;
     Tables {
         stops,
-        stopkeys,
         trips,
         tripkeys,
         times,
-        shapes,
-        points,
-        aliases,
-        lines,
-        calendars,
-        ranges,
-        exceptions,
-        updates,
-        sailing,
+        ..t
     }
 }

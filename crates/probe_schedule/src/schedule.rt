@@ -1,8 +1,6 @@
 // Dates, services and matching.
-use case_moments::Signed;
 use case_tables::{Case, layout, put, span};
 use case_tokens::field;
-use days::ReadDate;
 use ids::IdColumn;
 use probe_pools::{asked, write};
 use std::io;
@@ -12,21 +10,21 @@ use timetable_answers::{Matched, Running};
 // (date N)
 pub fn date(out: &impl Print, err: &impl Print, n: u32) -> io::Result<()> {
     match days::read_date(n) {
-        ReadDate::Day(day) => {
+        Some(day) => {
             write::text(out, b"(day ")?;
             write::signed(out, day)?;
             write::text(out, b" ")?;
             write::count(out, day_counts::weekday(day) as u64)?;
             write::text(out, b")\n")
         }
-        ReadDate::NotADate => case_answers::print_refusal(out, err, 10),
+        None => case_answers::print_refusal(out, err, 10),
     }
 }
 
 fn asked_service() -> Service {
     Service {
-        feed: case_tables::id_column(asked::FEED, 1, 1),
-        service: case_tables::id_column(asked::SERVICE, 1, 1),
+        feed: asked::FEED.column(1),
+        service: asked::SERVICE.column(1),
         date: span(asked::DATE, 1),
     }
 }
@@ -40,7 +38,7 @@ fn put_service(s: &[u8], bytes: &mut [u8], words: &mut [u32], date: u32) {
         asked::SERVICE,
         field(s, 2),
     );
-    put::word(words, asked::DATE, 0, date);
+    put(words, asked::DATE, 0, date);
 }
 
 fn print_running(out: &impl Print, err: &impl Print, answer: Running) -> io::Result<()> {
@@ -103,21 +101,21 @@ fn flag_at(bytes: &[u8], column: u32, row: u32) -> bool {
 }
 
 // The departure of an update, else its arrival.
-fn departure(bytes: &[u8], times: &[i64], row: u32) -> Signed {
+fn departure(bytes: &[u8], times: &[i64], row: u32) -> Option<i64> {
     if flag_at(bytes, layout::UPDATE_DEPARTS, row) {
-        return Signed::Is(time_at(times, layout::UPDATE_DEPARTURE, row));
+        return Some(time_at(times, layout::UPDATE_DEPARTURE, row));
     }
     if flag_at(bytes, layout::UPDATE_ARRIVES, row) {
-        return Signed::Is(time_at(times, layout::UPDATE_ARRIVAL, row));
+        return Some(time_at(times, layout::UPDATE_ARRIVAL, row));
     }
-    Signed::Nothing
+    None
 }
 
-fn sooner(a: Signed, b: Signed) -> Signed {
-    let Signed::Is(x) = a else {
+fn sooner(a: Option<i64>, b: Option<i64>) -> Option<i64> {
+    let Some(x) = a else {
         return b;
     };
-    let Signed::Is(y) = b else {
+    let Some(y) = b else {
         return a;
     };
     if y < x {
@@ -127,8 +125,8 @@ fn sooner(a: Signed, b: Signed) -> Signed {
 }
 
 // The least over n updates.
-fn first_departure(bytes: &[u8], times: &[i64], n: u32) -> Signed {
-    let mut best = Signed::Nothing;
+fn first_departure(bytes: &[u8], times: &[i64], n: u32) -> Option<i64> {
+    let mut best = None;
     let mut k = 0;
     while k < n {
         best = sooner(best, departure(bytes, times, k));
@@ -138,19 +136,19 @@ fn first_departure(bytes: &[u8], times: &[i64], n: u32) -> Signed {
 }
 
 // Puts the first departure where it is asked of.
-fn put_departure(bytes: &mut [u8], times: &mut [i64], first: Signed) {
+fn put_departure(bytes: &mut [u8], times: &mut [i64], first: Option<i64>) {
     match first {
-        Signed::Is(t) => {
-            put::byte(bytes, asked::DEPARTS, 0, 1);
-            put::time(times, asked::DEPARTURE, 0, t);
+        Some(t) => {
+            put(bytes, asked::DEPARTS, 0, 1);
+            put(times, asked::DEPARTURE, 0, t);
         }
-        Signed::Nothing => put::byte(bytes, asked::DEPARTS, 0, 0),
+        None => put(bytes, asked::DEPARTS, 0, 0),
     }
 }
 
 // How long the trip key is before its last `@`.
 fn base_length(bytes: &[u8], words: &[u32]) -> u32 {
-    let key = ids::id(bytes, words, case_tables::id_column(layout::KEY, 1, 1), 0);
+    let key = ids::id(bytes, words, layout::KEY.column(1), 0);
     let n = key_parts::base(key).len();
     if 255 < n {
         return 255;
@@ -161,10 +159,10 @@ fn base_length(bytes: &[u8], words: &[u32]) -> u32 {
 fn asked_journey() -> Journey {
     Journey {
         key: IdColumn {
-            starts: span(layout::KEY, 1),
+            starts: span(layout::KEY.at, 1),
             lens: span(asked::KEY_LENGTH, 1),
         },
-        route: case_tables::id_column(layout::ROUTE, 1, 1),
+        route: layout::ROUTE.column(1),
         routed: span(layout::ROUTED, 1),
         departure: span(asked::DEPARTURE, 1),
         departs: span(asked::DEPARTS, 1),
@@ -175,7 +173,7 @@ fn asked_journey() -> Journey {
 // Puts what matching is asked of.
 fn put_journey(bytes: &mut [u8], words: &mut [u32], times: &mut [i64], updates: u32) {
     let base = base_length(bytes, words);
-    put::word(words, asked::KEY_LENGTH, 0, base);
+    put(words, asked::KEY_LENGTH, 0, base);
     let first = first_departure(bytes, times, updates);
     put_departure(bytes, times, first);
 }

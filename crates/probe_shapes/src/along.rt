@@ -46,7 +46,7 @@ pub fn snap(
     dists: &[f32],
     x: f64,
 ) -> io::Result<()> {
-    put::real(reals, asked::NUMBER, 0, x);
+    put(reals, asked::NUMBER, 0, x);
     let lent = Samples {
         line: no_points(),
         at: no_points(),
@@ -77,9 +77,9 @@ fn print_place(out: &impl Print, err: &impl Print, answer: Interpolation) -> io:
 }
 
 fn put_along(reals: &mut [f64], dists: &mut [f32], from: f32, to: f32, fraction: f64) {
-    put::real(reals, asked::NUMBER, 0, fraction);
-    put::dist(dists, asked::PAIR, 0, from);
-    put::dist(dists, asked::PAIR, 1, to);
+    put(reals, asked::NUMBER, 0, fraction);
+    put(dists, asked::PAIR, 0, from);
+    put(dists, asked::PAIR, 1, to);
 }
 
 fn along_lent(line: Points) -> Along {
@@ -161,10 +161,10 @@ fn put_sample(
     let stop = ids::cell(words, span(layout::CALL_STOP, 0), row) as usize;
     let lat = trip_rows::real(reals, span(layout::STOP_LAT, 0), stop);
     let lon = trip_rows::real(reals, span(layout::STOP_LON, 0), stop);
-    put::real(reals, asked::SAMPLE_LAT, found, lat);
-    put::real(reals, asked::SAMPLE_LON, found, lon);
+    put(reals, asked::SAMPLE_LAT, found, lat);
+    put(reals, asked::SAMPLE_LON, found, lon);
     let d = dist_at(dists, row);
-    put::dist(dists, asked::SAMPLE_DIST, found, d);
+    put(dists, asked::SAMPLE_DIST, found, d);
     std::num::wrapping_add_u32(found, 1)
 }
 

@@ -62,7 +62,7 @@ fn ask_leg(
     let lat: &mut [f64] = &mut lat_space;
     let lon: &mut [f64] = &mut lon_space;
     let asked = LegAsked {
-        trip: case_tables::id_column(asked::TRIP, 1, 1),
+        trip: asked::TRIP.column(1),
     };
     let answer = leg_drawing::leg_geometry(
         bytes,

@@ -136,7 +136,7 @@ pub fn project(
 ) -> io::Result<()> {
     let mut space = [0u32; 8192];
     let vertices: &mut [u32] = &mut space;
-    put::word(words, asked::TRIP_ROW, 0, trip);
+    put(words, asked::TRIP_ROW, 0, trip);
     let answer = project_asked(bytes, words, times, reals, dists, vertices, c);
     print_projected(out, err, bytes, vertices, trip, answer)
 }

@@ -3,7 +3,6 @@ ghost use Rattle.std.specs.Prelude.{◌≡◌, length};
 ghost use Rattle.ids.specs.First.{first as first_below};
 ghost use Rattle.product_codes.specs.Codes.{word, line_word, is_code, begins_word, code_at, code_word, product_code};
 
-use ids::Found;
 use parts::{first, from, if_long, past_place};
 
 // The letters and digits at the beginning.
@@ -58,17 +57,16 @@ fn code_at(s: &[u8], k: usize) -> bool
 }
 
 // Where the first code begins.
-fn code_place(s: &[u8]) -> Found
+#[tactic(auto, using(ids::proofs::Search::first_miss))]
+fn code_place(s: &[u8]) -> Option<usize>
     ensures { result ≡ first_below (code_at s.now) (length s.now) }
 {
-    let mut k = 0;
-    while k < s.len() {
+    for k in 0..s.len() {
         if code_at(s, k) {
-            return Found::At(k);
+            return Some(k);
         }
-        k += 1;
     }
-    Found::Nothing
+    None
 }
 
 // The first word that is a code.

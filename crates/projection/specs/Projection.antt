@@ -1,14 +1,11 @@
 -- The projection of a trip's stops, one after the other, with the cursor handed on. Definitions only.
+use Rattle.std.specs.Prelude.{Option, Some, None, ℕ}
 use mathlib.Core.List.{List, [], ◌∷◌, foldl}
-use Rattle.ids.specs.declared.lookup.Found.{Found}
-use Rattle.ids.specs.declared.lookup.Found.TheVariants.{At, Nothing}
 use Rattle.lengths.specs.declared.line.Point.{Point}
 use Rattle.near_vertex.specs.Forward.{forward_shape_index}
 use Rattle.projection.specs.declared.cursor.Cursor.{Cursor}
 use Rattle.projection.specs.declared.cursor.Step.{Step}
 use Rattle.projection.specs.declared.cursor.Passed.{Passed}
-use Rattle.projection.specs.declared.cursor.Position.{Position}
-use Rattle.projection.specs.declared.cursor.Position.TheVariants.{Known, Missing}
 
 -- before the first stop
 abbrev pub at_start : Cursor
@@ -19,19 +16,19 @@ unfoldable pub step_of : List Point → Cursor → Point → Step
 step_of line c stop = let k = forward_shape_index line c.at stop in record { cursor = record { at = k }; vertex = k }
 
 -- any stop: one without a position gets none and does not move the cursor
-abbrev pub passed_of : List Point → Cursor → Position → Passed
-passed_of line c (Known stop) = let s = step_of line c stop in record { cursor = s.cursor; vertex = At s.vertex }
-passed_of line c Missing = record { cursor = c; vertex = Nothing }
+abbrev pub passed_of : List Point → Cursor → Option Point → Passed
+passed_of line c (Some stop) = let s = step_of line c stop in record { cursor = s.cursor; vertex = Some s.vertex }
+passed_of line c None = record { cursor = c; vertex = None }
 
 -- the cursor after each of the stops in turn
-unfoldable pub cursor_after : List Point → Cursor → List Position → Cursor
-cursor_after line c stops = foldl (λ (d : Cursor) (s : Position). (passed_of line d s).cursor) c stops
+unfoldable pub cursor_after : List Point → Cursor → List (Option Point) → Cursor
+cursor_after line c stops = foldl (λ (d : Cursor) (s : Option Point). (passed_of line d s).cursor) c stops
 
 -- the stops' vertices, from a cursor on
-unfoldable pub projection_from : List Point → Cursor → List Position → List Found
+unfoldable pub projection_from : List Point → Cursor → List (Option Point) → List (Option ℕ)
 projection_from line c [] = []
 projection_from line c (s ∷ stops) = let p = passed_of line c s in p.vertex ∷ projection_from line p.cursor stops
 
 -- a trip's
-abbrev pub projection_of : List Point → List Position → List Found
+abbrev pub projection_of : List Point → List (Option Point) → List (Option ℕ)
 projection_of line stops = projection_from line at_start stops

@@ -4,7 +4,6 @@ ghost use Rattle.std.specs.Prelude.{◌≡◌};
 ghost use Rattle.lengths.specs.Line.{line_of};
 ghost use Rattle.projection.specs.Projection.{at_start, step_of, passed_of};
 
-use ids::Found;
 use lengths::Point;
 use near_vertex::forward_shape_index;
 
@@ -20,20 +19,11 @@ pub struct Step {
     pub vertex: usize,
 }
 
-// Where a stop is.
-#[derive(Clone, Copy)]
-pub enum Position {
-    // At this point.
-    Known(Point),
-    // It has no position.
-    Missing,
-}
-
 // The next cursor, and the vertex of the stop if it has one.
 #[derive(Clone, Copy)]
 pub struct Passed {
     pub cursor: Cursor,
-    pub vertex: Found,
+    pub vertex: Option<usize>,
 }
 
 impl Cursor {
@@ -56,21 +46,21 @@ impl Cursor {
     }
 
     // Takes any stop: one without a position gets no vertex and does not move the cursor.
-    pub fn pass(self, lat: &[f64], lon: &[f64], stop: Position) -> Passed
+    pub fn pass(self, lat: &[f64], lon: &[f64], stop: Option<Point>) -> Passed
         ensures { result ≡ passed_of (line_of lat.now lon.now) self stop }
     {
         match stop {
-            Position::Known(point) => {
+            Some(point) => {
                 let step = self.step(lat, lon, point);
                 let cursor = step.cursor;
                 Passed {
                     cursor,
-                    vertex: Found::At(step.vertex),
+                    vertex: Some(step.vertex),
                 }
             }
-            Position::Missing => Passed {
+            None => Passed {
                 cursor: self,
-                vertex: Found::Nothing,
+                vertex: None,
             },
         }
     }

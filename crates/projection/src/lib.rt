@@ -9,4 +9,4 @@
 
 mod cursor; // where a projection has got to, handed a stop and handed back
 
-pub use cursor::{Cursor, Passed, Position, Step};
+pub use cursor::{Cursor, Passed, Step};

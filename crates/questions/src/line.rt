@@ -2,8 +2,6 @@
 ghost use Rattle.std.specs.Prelude.{◌≤◌, ◌≡◌, length};
 ghost use Rattle.questions.specs.Lines.{line_end};
 
-use ids::Found;
-
 // Where the line that begins at `at` ends: at its newline, or at the end of the text.
 pub fn line_end(text: &[u8], at: usize) -> usize
     requires { at ≤ length text.now }
@@ -11,7 +9,7 @@ pub fn line_end(text: &[u8], at: usize) -> usize
     ensures lower_bound { (at ≤ result) × (result ≤ length text.now) }
 {
     match text_runs::first_of(&text[at..], b'\n') {
-        Found::At(k) => at + k,
-        Found::Nothing => text.len(),
+        Some(k) => at + k,
+        None => text.len(),
     }
 }

@@ -19,20 +19,17 @@ pub fn limit(most: f64) -> f64
 {
     let s = most / 10800000.0;
     let a = s * s;
-    if a >= 0.0 {
-        if most < low(root(a)) {
-            return a;
-        }
+    if a >= 0.0 && most < low(root(a)) {
+        a
+    } else {
+        f64::INFINITY
     }
-    1.0 / 0.0
 }
 
 // Whether a is past the limit, and no further than a sixty-fourth: about 1,600 kilometres.
+#[tactic(auto, unfolding(crate::specs::Reach::is_beyond))]
 pub fn is_beyond(limit: f64, a: f64) -> bool
     ensures { result ≡ is_beyond limit a }
 {
-    if limit < a {
-        return a <= 0.015625;
-    }
-    false
+    limit < a && a <= 0.015625
 }

@@ -1,19 +1,8 @@
 -- The faults of a trip's records. Definitions only.
-use Rattle.std.specs.Prelude.{ℕ, zero, suc, cond, List, [], ◌∷◌, leb}
+use Rattle.std.specs.Prelude.{ℕ, cond, leb}
 use Rattle.column_floats.specs.Real.{is_finite}
 use Rattle.stop_record.specs.declared.StopTime.{StopTime}
 use Rattle.record_faults.specs.declared.Faults.{Faults}
-
-module _ {S X : Type 0} where
-  abbrev pub fold : (S → X → S) → S → List X → S
-  fold g s [] = s
-  fold g s (x ∷ xs) = fold g (g s x) xs
-
-  -- the same over the first n
-  abbrev pub fold_to : (S → X → S) → S → ℕ → List X → S
-  fold_to g s zero xs = s
-  fold_to g s (suc n) [] = s
-  fold_to g s (suc n) (x ∷ xs) = fold_to g (g s x) n xs
 
 -- 1 for a stop that is not among so many
 unfoldable pub outside_of : ℕ → ℕ → ℕ → ℕ

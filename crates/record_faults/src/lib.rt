@@ -1,10 +1,10 @@
 // What backfill may turn a trip's records down for, found where they lie: a stop that is not in the table, a distance that is not finite.
-// The loop over the slice of structs is a walk by hand; what one record adds is a function of its own.
+// What one record adds is a function of its own.
 #![tactic(auto)]
 
-ghost use Rattle.std.specs.Prelude.{◌≡◌};
+ghost use Rattle.std.specs.Prelude.{◌≡◌, fold};
 ghost use Rattle.column_floats.specs.Real.{is_finite};
-ghost use Rattle.record_faults.specs.Faults.{fold, outside_of, infinite_of, step_of};
+ghost use Rattle.record_faults.specs.Faults.{outside_of, infinite_of, step_of};
 
 use stop_record::StopTime;
 
@@ -19,13 +19,11 @@ pub struct Faults {
 fn finite(x: f32) -> bool
     ensures { result ≡ is_finite x }
 {
-    if -1.0 / 0.0 < x {
-        return x < 1.0 / 0.0;
-    }
-    false
+    x.is_finite()
 }
 
 // With one more stop, of so many in the table.
+#[tactic(auto, unfolding(crate::specs::Faults::outside_of))]
 fn outside(before: u32, stop: u32, stops: u32) -> u32
     ensures { result ≡ outside_of before stop stops }
 {
@@ -36,18 +34,17 @@ fn outside(before: u32, stop: u32, stops: u32) -> u32
 }
 
 // With one more record; a value that is no distance is not tested.
+#[tactic(auto, unfolding(crate::specs::Faults::infinite_of))]
 fn infinite(before: u32, s: StopTime) -> u32
     ensures { result ≡ infinite_of before s }
 {
-    if !s.measured {
-        return before;
-    }
-    if finite(s.dist) {
+    if !s.measured || finite(s.dist) {
         return before;
     }
     1
 }
 
+// What is at fault so far, with one more record.
 pub fn step(c: Faults, s: StopTime, stops: u32) -> Faults
     ensures { result ≡ step_of stops c s }
 {
@@ -57,14 +54,9 @@ pub fn step(c: Faults, s: StopTime, stops: u32) -> Faults
     }
 }
 
+// What is at fault in the records, beside what was before.
 pub fn scan(r: &[StopTime], stops: u32, start: Faults) -> Faults
     ensures { result ≡ fold (step_of stops) start r.now }
 {
-    let mut c = start;
-    let mut i = 0;
-    while i < r.len() {
-        c = step(c, r[i], stops);
-        i += 1;
-    }
-    c
+    r.iter().fold(start, |c, s| step(c, *s, stops))
 }

@@ -1,6 +1,6 @@
 -- The first refusal that applies to backfill of records, or 0. Definitions only.
 use Rattle.std.specs.Prelude.{ℕ, cond, ◌||◌, List, [], ◌∷◌, eqb, ltb}
-use Rattle.refusals.specs.Refuse.{Cause, joined}
+use Rattle.verdicts.specs.Refuse.{Cause, joined}
 use Rattle.tables.specs.declared.bounds.Bounds.{Bounds}
 use Rattle.stop_rules.specs.Parts.{stops_causes}
 use Rattle.shape_rules.specs.Parts.{line_causes}

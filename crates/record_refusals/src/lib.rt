@@ -5,11 +5,13 @@
 ghost use Rattle.std.specs.Prelude.{◌≡◌, []};
 ghost use Rattle.tables.specs.Pools.{pools};
 ghost use Rattle.tables.specs.Bounds.{chart_bounds};
-ghost use Rattle.refusals.specs.Refuse.{refusal_of};
+ghost use Rattle.verdicts.specs.Refuse.{refusal_of};
 ghost use Rattle.record_refusals.specs.Verdict.{lent_causes, earlier, numbered, over_of, short_of, verdict_of};
 
 use record_faults::Faults;
+use refusals::number_or_zero;
 use tables::{Bounds, Points, Stops};
+use verdicts::Verdict;
 
 // The stops, and the points of the trip's shape.
 #[repr(C)]
@@ -23,25 +25,21 @@ pub struct Lent {
 pub fn check_lent(bytes: &[u8], words: &[u32], reals: &[f64], l: Lent) -> u32
     ensures { result ≡ refusal_of (pools bytes.now words.now [] reals.now []) (lent_causes chart_bounds l) }
 {
-    let stops = l.stops;
-    let line = l.line;
-    let b = Bounds::chart();
-    let times: [i64; 1] = [0; 1];
-    let dists: [f32; 1] = [0.0; 1];
-    let best1 = stop_rules::stops(bytes, words, &times[..0], reals, &dists[..0], 0, b, stops);
-    shape_rules::points_within(
+    let lent = tables::Lent {
         bytes,
         words,
-        &times[..0],
+        times: &[],
         reals,
-        &dists[..0],
-        best1,
-        line,
-        b.points,
-    )
+        dists: &[],
+    };
+    let b = Bounds::chart();
+    let stops = stop_rules::stops(Verdict::new(), &lent, b, l.stops);
+    let line = shape_rules::points_within(stops, &lent, l.line, b.points);
+    number_or_zero(&line.finish())
 }
 
 // The earlier of two refusals, of which 0 is none.
+#[tactic(auto, unfolding(crate::specs::Verdict::earlier))]
 fn earlier(a: u32, b: u32) -> u32
     ensures { result ≡ earlier a b }
 {
@@ -58,6 +56,7 @@ fn earlier(a: u32, b: u32) -> u32
 }
 
 // A refusal's number where a flag is not 0.
+#[tactic(auto, unfolding(crate::specs::Verdict::numbered))]
 fn numbered(flag: u32, number: u32) -> u32
     ensures { result ≡ numbered flag number }
 {
@@ -68,6 +67,7 @@ fn numbered(flag: u32, number: u32) -> u32
 }
 
 // 2 for more records than a table of stop times may have rows.
+#[tactic(auto, unfolding(crate::specs::Verdict::over_of))]
 fn over(n: usize) -> u32
     ensures { result ≡ over_of n }
 {
@@ -78,22 +78,18 @@ fn over(n: usize) -> u32
 }
 
 // 9 where one of the columns has fewer rows than there are records.
+#[tactic(auto, unfolding(crate::specs::Verdict::short_of))]
 fn short(n: usize, a: usize, d: usize, k: usize) -> u32
     ensures { result ≡ short_of n a d k }
 {
-    if a < n {
-        return 9;
-    }
-    if d < n {
-        return 9;
-    }
-    if k < n {
+    if a < n || d < n || k < n {
         return 9;
     }
     0
 }
 
 // The first refusal that applies, or 0: of the records' faults, of what is lent beside them, and of the columns' rows.
+#[tactic(auto, unfolding(crate::specs::Verdict::verdict_of))]
 pub fn verdict(c: Faults, lent: u32, n: usize, a: usize, d: usize, k: usize) -> u32
     ensures { result ≡ verdict_of c lent n a d k }
 {

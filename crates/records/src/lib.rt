@@ -1,5 +1,5 @@
 // A trip's stop times as records: a slice of structs. Its functions read the records where they lie, as columns, and write the distances that
-// columns have an answer for. The proofs of those that are lent the slice are walks by hand; what is done with one record is in `stop_record`.
+// columns have an answer for. What is done with one record is in `stop_record`.
 #![tactic(auto)]
 
 ghost use Rattle.std.specs.Prelude.{◌≡◌, ◌<◌, ◌≤◌, length};
@@ -13,10 +13,8 @@ pub fn fill(r: &mut [StopTime], dists: &[f32], known: &[u8])
     requires { (length r.old ≤ length dists.now) × (length r.old ≤ length known.now) }
     ensures { r.new ≡ each (fill_row dists.now known.now) r.old }
 {
-    let mut i = 0;
-    while i < r.len() {
-        r[i] = filled(r[i], dists[i], known[i]);
-        i += 1;
+    for (i, s) in r.iter_mut().enumerate() {
+        *s = filled(*s, dists[i], known[i]);
     }
 }
 
@@ -26,11 +24,9 @@ pub fn columns(r: &[StopTime], dists: &mut [f32], known: &mut [u8])
     ensures { (dists.new ≡ map_to (dist_col r.now) (length r.now) dists.old)
         × (known.new ≡ map_to (known_col r.now) (length r.now) known.old) }
 {
-    let mut i = 0;
-    while i < r.len() {
-        dists[i] = r[i].dist;
-        known[i] = r[i].measured as u8;
-        i += 1;
+    for (i, s) in r.iter().enumerate() {
+        dists[i] = s.dist;
+        known[i] = s.measured as u8;
     }
 }
 
@@ -39,9 +35,7 @@ pub fn stops_of(r: &[StopTime], at: &mut [u32])
     requires { length r.now ≤ length at.old }
     ensures { at.new ≡ map_to (stop_col r.now) (length r.now) at.old }
 {
-    let mut i = 0;
-    while i < r.len() {
-        at[i] = r[i].stop;
-        i += 1;
+    for (i, s) in r.iter().enumerate() {
+        at[i] = s.stop;
     }
 }

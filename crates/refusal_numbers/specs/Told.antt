@@ -1,13 +1,11 @@
 -- What is written of an answer, for C. Definitions only.
-use Rattle.std.specs.Prelude.{ℕ, Bool, true, false}
-use Rattle.ids.specs.declared.lookup.Found.{Found}
-use Rattle.ids.specs.declared.lookup.Found.TheVariants.{At, Nothing}
-use Rattle.measure.specs.Answer.{Answer, refused, given}
+use Rattle.std.specs.Prelude.{ℕ, Bool, true, false, Option, Some, None}
+use Rattle.refusals.specs.Answer.{Answer, refused, given}
 
 -- the trip's row, or what was there before
-abbrev pub row_or : ℕ → Answer Found → ℕ
-row_or old (given (At k)) = k
-row_or old (given Nothing) = old
+abbrev pub row_or : ℕ → Answer (Option ℕ) → ℕ
+row_or old (given (Some k)) = k
+row_or old (given None) = old
 row_or old (refused n) = old
 
 -- 1 where a service runs and 0 where it does not, or what was there before

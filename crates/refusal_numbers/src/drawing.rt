@@ -1,6 +1,6 @@
 // The points of a leg or a journey.
 ghost use Rattle.std.specs.Prelude.{◌≡◌};
-ghost use Rattle.measure.specs.Answer.{number_of, value_or};
+ghost use Rattle.refusals.specs.Answer.{number_of, value_or};
 ghost use Rattle.point_columns.specs.Answers.{drawing_answer};
 
 use point_columns::Drawing;

@@ -1,6 +1,6 @@
 // Whether a service runs.
 ghost use Rattle.std.specs.Prelude.{◌≡◌};
-ghost use Rattle.measure.specs.Answer.{number_of};
+ghost use Rattle.refusals.specs.Answer.{number_of};
 ghost use Rattle.timetable_answers.specs.Answers.{run_answer};
 ghost use Rattle.refusal_numbers.specs.Told.{runs_or};
 

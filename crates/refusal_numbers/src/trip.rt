@@ -1,6 +1,6 @@
 // The trip of a journey.
 ghost use Rattle.std.specs.Prelude.{◌≡◌};
-ghost use Rattle.measure.specs.Answer.{number_of};
+ghost use Rattle.refusals.specs.Answer.{number_of};
 ghost use Rattle.timetable_answers.specs.Answers.{match_answer};
 ghost use Rattle.refusal_numbers.specs.Told.{row_or};
 

@@ -1,2 +1,3 @@
--- `Refuse`: what makes a refusal, and the first that applies.
-pub mod Refuse
+-- `Refusal`: the refusals' numbers. `Answer`: what an operation answers, a refusal's number alone or a value.
+pub mod Refusal
+pub mod Answer

@@ -1,6 +1,8 @@
-// The first refusal that applies: the least number whose cause is there. The rules of each table test its causes in turn.
+// Refusals: why a call is refused, each with the number that C callers get. An operation answers a `Result` whose error is a `Refusal`; where several causes are there, it is the least.
+//
+// The definitions that the contracts cite are in specs/: `Refusal` has the numbers, `Answer` what an operation answers.
 #![tactic(auto)]
 
-mod cause; // what makes a refusal, and the least that is there
+mod refusal; // refusal.rt: the refusals
 
-pub use cause::{all_named, named, tested};
+pub use refusal::{Refusal, number_or_zero, told};

@@ -3,7 +3,7 @@ use Prim.Native.Nat.{ℕ, zero, suc, ◌+◌, ◌-◌, ◌*◌, ◌/◌, ◌^◌
 use Rattle.std.specs.Prelude.{cond, false, Float}
 use Rattle.std.specs.Float.{nan, inf, fin, Format, binary64}
 use Rattle.std.specs.Float.Ieee.{prec, low, up, down, size, nearest, units}
-use Rattle.whole_roots.specs.Whole.{whole_root}
+use Rattle.roots.specs.Whole.{whole_root}
 
 -- The value of f nearest to the root of num / den. In units of f's smallest value that is the root of n / den.
 -- As in `round`, the format keeps the `prec` leading digits of its whole part and drops k: q is the whole part of the root in

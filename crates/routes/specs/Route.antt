@@ -1,5 +1,6 @@
 -- A part of a line with its length, and where it is at a fraction of that. Definitions only.
-use Rattle.std.specs.Prelude.{cond, List, ltb, Float, length}
+use Rattle.stretches.specs.declared.drawing.Drawn.{Drawn}
+use Rattle.std.specs.Prelude.{cond, List, ltb, Float, length, Option, Some, None}
 use Rattle.std.specs.Float.{binary64}
 use Rattle.std.specs.Float.Ieee.{mul, div, lt, le}
 use Rattle.floats.specs.Number.{nought, one}
@@ -11,8 +12,6 @@ use Rattle.stretches.specs.Drawing.{draw_of}
 use Rattle.line_parts.specs.declared.part.Part.{Part}
 use Rattle.stretches.specs.declared.spot.Spot.{Spot}
 use Rattle.stretches.specs.declared.spot.Spot.TheVariants.{First, Straight, NoStretch}
-use Rattle.stretches.specs.declared.drawing.Interpolated.{Interpolated}
-use Rattle.stretches.specs.declared.drawing.Interpolated.TheVariants.{At, Nothing}
 use Rattle.routes.specs.declared.route.Route.{Route}
 
 -- 1e-9
@@ -33,6 +32,6 @@ along_of line route f =
     cond (ltb route.part.first route.part.last) (cond (le f nought) First (cond (le one f) NoStretch (inside_of line route f))) First
 
 -- the position on a whole line, which has none only where it has no vertex
-unfoldable pub along_vertices : List Point → Float → Interpolated
+unfoldable pub along_vertices : List Point → Float → Option Drawn
 along_vertices line frac =
-    cond (ltb (length line) 1) Nothing (At (draw_of line (whole_of line) (along_of line (route_of line (whole_of line)) frac)))
+    cond (ltb (length line) 1) None (Some (draw_of line (whole_of line) (along_of line (route_of line (whole_of line)) frac)))

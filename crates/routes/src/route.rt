@@ -6,7 +6,7 @@ ghost use Rattle.routes.specs.Route.{inside_of, along_of, along_vertices, route_
 use first_stretch::stretch_at;
 use lengths::vertices;
 use line_parts::{Part, part_length, whole};
-use stretches::{Interpolated, Spot, draw};
+use stretches::{Drawn, Spot, draw};
 
 // A part, and its length in metres.
 #[derive(Clone, Copy)]
@@ -16,6 +16,7 @@ pub struct Route {
 }
 
 // A part with its length.
+#[tactic(auto, unfolding(crate::specs::Route::route_of))]
 pub fn route_of(lat: &[f64], lon: &[f64], part: Part) -> Route
     ensures { result ≡ route_of (line_of lat.now lon.now) part }
 {
@@ -30,38 +31,37 @@ fn inside(lat: &[f64], lon: &[f64], route: Route, f: f64) -> Spot
     ensures { result ≡ inside_of (line_of lat.now lon.now) route f }
 {
     if route.total < 1.0 {
-        return Spot::Straight(f);
+        Spot::Straight(f)
+    } else {
+        stretch_at(lat, lon, route.part, 0.000000001, route.total * f)
     }
-    let part = route.part;
-    stretch_at(lat, lon, part, 0.000000001, route.total * f)
 }
 
 // Where it is at any fraction, in the order of the vertices.
+#[tactic(auto, unfolding(crate::specs::Route::along_of))]
 pub fn along(lat: &[f64], lon: &[f64], route: Route, f: f64) -> Spot
     ensures { result ≡ along_of (line_of lat.now lon.now) route f }
 {
     let part = route.part;
-    if part.last <= part.first {
-        return Spot::First;
+    if part.last <= part.first || f <= 0.0 {
+        Spot::First
+    } else if f >= 1.0 {
+        Spot::NoStretch
+    } else {
+        inside(lat, lon, route, f)
     }
-    if f <= 0.0 {
-        return Spot::First;
-    }
-    if f >= 1.0 {
-        return Spot::NoStretch;
-    }
-    inside(lat, lon, route, f)
 }
 
 // On a whole line, which has no place only where it has no vertex.
-pub fn interpolate_along_vertices(lat: &[f64], lon: &[f64], frac: f64) -> Interpolated
+#[tactic(auto, unfolding(crate::specs::Route::along_vertices))]
+pub fn interpolate_along_vertices(lat: &[f64], lon: &[f64], frac: f64) -> Option<Drawn>
     ensures { result ≡ along_vertices (line_of lat.now lon.now) frac }
 {
-    if vertices(lat, lon) < 1 {
-        return Interpolated::Nothing;
+    if vertices(lat, lon) == 0 {
+        return None;
     }
     let part = whole(lat, lon);
     let route = route_of(lat, lon, part);
     let spot = along(lat, lon, route, frac);
-    Interpolated::At(draw(lat, lon, part, spot))
+    Some(draw(lat, lon, part, spot))
 }

@@ -1,3 +1,3 @@
--- `Columns`: rows and their columns. `Written`: what is written into a row.
+-- `Columns`: rows and their columns. `Written`: a row that has a distance is not written.
 pub mod Columns
 pub mod Written

@@ -12,7 +12,7 @@ pub struct Distance {
     pub measured: u8,
 }
 
-// What a trip's missing distances are written in.
+// What a trip's missing distances are written in: three cases with a meaning each, and so no `Option`.
 #[derive(Clone, Copy)]
 pub enum Unit {
     Metres,
@@ -30,6 +30,7 @@ fn in_feed(k: Affine, m: f64) -> f64
 }
 
 // A row whose stop is m metres along the line.
+#[tactic(auto, unfolding(crate::specs::Rows::filled_by))]
 pub fn filled(unit: Unit, m: f64, row: Distance) -> Distance
     ensures { result ≡ filled_by unit m row }
 {

@@ -1,4 +1,6 @@
 -- Rows that a check of the tables has found to ascend also ascend as the searches here ask. Assumes nothing.
+use Rattle.std.specs.declared.cmp.Ordering.{Ordering}
+use Rattle.std.specs.declared.cmp.Ordering.TheVariants.{Less, Equal, Greater}
 use Prim.Native.Nat.{ℕ, ◌<◌}
 use mathlib.Core.Path.{◌≡◌}
 use mathlib.Core.Bool.{true}
@@ -6,8 +8,6 @@ use mathlib.Core.List.{List, [], ◌∷◌}
 use native.Mathlib.Omega.{arith}
 use Rattle.ids.specs.Cmp.{cmp}
 use Rattle.ids.specs.Pool.{cell_of, id_of}
-use Rattle.ids.specs.declared.order.Order.{Order}
-use Rattle.ids.specs.declared.order.Order.TheVariants.{Less, Same, More}
 use Rattle.ids.specs.declared.pool.IdColumn.{IdColumn}
 use Rattle.ids.specs.declared.pool.Span.{Span}
 use Rattle.ids.proofs.ByteOrder.{clash}
@@ -42,10 +42,10 @@ module _ (bytes words : List ℕ) where
         rw (day_order (cell_of words d i) (cell_of words d j) (dates i (omega arith)) (dates j h)) (e i j l h);
   }
 
-  first_in_order : (o r : Order) → or_next o r ≡ Less → or_next o Same ≡ More → ⊥
+  first_in_order : (o r : Ordering) → or_next o r ≡ Less → or_next o Equal ≡ Greater → ⊥
   first_in_order Less r e h = clash (cc)
-  first_in_order Same r e h = clash (cc)
-  first_in_order More r e h = clash (cc)
+  first_in_order Equal r e h = clash (cc)
+  first_in_order Greater r e h = clash (cc)
 
   pub lines_in_order : (t : IdColumn) (s : Span) (n : ℕ) → Keyed (IdWord t s) n → InOrder bytes words (Lines t) n
   unfolding cmp_rows parts_of parts_at cmp_parts

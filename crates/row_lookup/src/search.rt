@@ -4,8 +4,8 @@ ghost use Rattle.ids.specs.First.{first};
 ghost use Rattle.row_stands.specs.Stands.{stand_of};
 ghost use Rattle.row_lookup.specs.Rows.{place_of, row_is, InOrder, Ascend};
 
-use ids::{Found, Order};
 use row_stands::{Rows, stands};
+use std::cmp::Ordering;
 
 // The first of n rows that does not come before what is asked of, or n.
 pub fn seek(
@@ -21,14 +21,15 @@ pub fn seek(
     requires { InOrder bytes.now words.now rows n }
     ensures { result ≡ place_of (stand_of bytes.now words.now rows a.now b.now day flag) n }
 {
+    // A `while`, since the rows are read from the pools: there is no slice of them whose `partition_point` would say the same.
     let mut lo = 0;
     let mut hi = n;
     while lo < hi {
         let mid = lo + (hi - lo) / 2;
         match stands(bytes, words, rows, mid, a, b, day, flag) {
-            Order::Less => lo = mid + 1,
-            Order::Same => hi = mid,
-            Order::More => hi = mid,
+            Ordering::Less => lo = mid + 1,
+            Ordering::Equal => hi = mid,
+            Ordering::Greater => hi = mid,
         }
     }
     lo
@@ -44,17 +45,17 @@ pub fn row_of(
     b: &[u8],
     day: u32,
     flag: u32,
-) -> Found
+) -> Option<usize>
     requires { Ascend bytes.now words.now rows n }
     ensures { result ≡ first (row_is (stand_of bytes.now words.now rows a.now b.now day flag)) n }
 {
     let k = seek(bytes, words, rows, n, a, b, day, flag);
     if k < n {
         match stands(bytes, words, rows, k, a, b, day, flag) {
-            Order::Less => {}
-            Order::Same => return Found::At(k),
-            Order::More => {}
+            Ordering::Less => {}
+            Ordering::Equal => return Some(k),
+            Ordering::Greater => {}
         }
     }
-    Found::Nothing
+    None
 }

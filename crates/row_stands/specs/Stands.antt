@@ -1,7 +1,7 @@
--- How a row of a table stands to a key. A key has parts, as in column_order/specs/Order.antt; a date's part is its day.
+-- How a row of a table stands to a key. A key has parts, as in column_order/specs/Ordering.antt; a date's part is its day.
+use Rattle.std.specs.declared.cmp.Ordering.{Ordering}
 use Rattle.std.specs.Prelude.{ℕ, List, [], ◌∷◌}
 use Rattle.ids.specs.Pool.{cell_of, id_of}
-use Rattle.ids.specs.declared.order.Order.{Order}
 use Rattle.days.specs.Days.{ordinal}
 use Rattle.columns.specs.Rows.{bit_of}
 use Rattle.column_order.specs.Order.{cmp_parts}
@@ -21,5 +21,5 @@ key_of (Exceptions f s d m) a b day bit = a ∷ b ∷ (day ∷ []) ∷ (bit ∷ 
 key_of (Lines t) a b day bit = a ∷ []
 
 -- how row k stands to what is asked of
-unfoldable pub stand_of : List ℕ → List ℕ → Rows → List ℕ → List ℕ → ℕ → ℕ → ℕ → Order
+unfoldable pub stand_of : List ℕ → List ℕ → Rows → List ℕ → List ℕ → ℕ → ℕ → ℕ → Ordering
 stand_of bytes words rows a b day bit k = cmp_parts (parts_at bytes words rows k) (key_of rows a b day bit)

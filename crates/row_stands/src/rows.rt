@@ -5,7 +5,8 @@ ghost use Rattle.row_stands.specs.declared.rows.Rows.TheVariants.{Ranges, Except
 
 use column_order::numbers;
 use columns::bit;
-use ids::{IdColumn, Order, Span, cell, compare, id};
+use ids::{IdColumn, Span, cell, compare, id};
+use std::cmp::Ordering;
 
 // The columns that a row is found by.
 #[derive(Clone, Copy)]
@@ -27,13 +28,13 @@ fn by_names(
     k: usize,
     a: &[u8],
     b: &[u8],
-) -> Order
+) -> Ordering
     ensures { result ≡ stand_of bytes.now words.now (Ranges feeds services) a.now b.now 0 0 k }
 {
     match compare(id(bytes, words, feeds, k), a) {
-        Order::Less => return Order::Less,
-        Order::Same => {}
-        Order::More => return Order::More,
+        Ordering::Less => return Ordering::Less,
+        Ordering::Equal => {}
+        Ordering::Greater => return Ordering::Greater,
     }
     compare(id(bytes, words, services, k), b)
 }
@@ -51,20 +52,20 @@ fn by_day(
     b: &[u8],
     day: u32,
     flag: u32,
-) -> Order
+) -> Ordering
     ensures { result ≡ stand_of bytes.now words.now (Exceptions feeds services dates flags) a.now b.now day flag k }
 {
     match by_names(bytes, words, feeds, services, k, a, b) {
-        Order::Less => return Order::Less,
-        Order::Same => {}
-        Order::More => return Order::More,
+        Ordering::Less => return Ordering::Less,
+        Ordering::Equal => {}
+        Ordering::Greater => return Ordering::Greater,
     }
     let o = days::ordinal_of(cell(words, dates, k));
     if o < day as u64 {
-        return Order::Less;
+        return Ordering::Less;
     }
     if (day as u64) < o {
-        return Order::More;
+        return Ordering::Greater;
     }
     numbers(bit(bytes, flags, k), flag)
 }
@@ -79,7 +80,7 @@ pub fn stands(
     b: &[u8],
     day: u32,
     flag: u32,
-) -> Order
+) -> Ordering
     ensures { result ≡ stand_of bytes.now words.now rows a.now b.now day flag k }
 {
     match rows {

@@ -1,9 +1,8 @@
 -- Tests of a row of the stop times, and the first and the last row of a trip that passes one. Definitions only.
-use Rattle.std.specs.Prelude.{ℕ, ◌+◌, Bool, ◌&&◌, ◌||◌, List, eqb, leb, ltb, length}
+use Rattle.std.specs.Prelude.{ℕ, ◌+◌, Bool, ◌&&◌, ◌||◌, List, eqb, leb, ltb, length, Option}
 use Rattle.ids.specs.Cmp.{equal}
 use Rattle.ids.specs.First.{first, last}
 use Rattle.ids.specs.Pool.{cell_of, id_of}
-use Rattle.ids.specs.declared.lookup.Found.{Found}
 use Rattle.texts.specs.Texts.{holds}
 use Rattle.tables.specs.declared.lent.StopTimes.{StopTimes}
 use Rattle.tables.specs.declared.lent.Stops.{Stops}
@@ -43,9 +42,9 @@ abbrev pub after : (ℕ → Bool) → ℕ → ℕ → Bool
 after p from k = p (from + k)
 
 -- the first of n rows from `from` on that passes
-abbrev pub first_row : (ℕ → Bool) → ℕ → ℕ → Found
+abbrev pub first_row : (ℕ → Bool) → ℕ → ℕ → Option ℕ
 first_row p from n = row_after from (first (after p from) n)
 
 -- the last
-abbrev pub last_row : (ℕ → Bool) → ℕ → ℕ → Found
+abbrev pub last_row : (ℕ → Bool) → ℕ → ℕ → Option ℕ
 last_row p from n = row_after from (last (after p from) n)

@@ -1,8 +1,10 @@
 -- The length along a line grows from vertex to vertex by the stretch between them, and the Rust's list has it at each vertex. Assumes nothing.
-use Prim.Native.Nat.{ℕ, zero, suc, ◌+◌, ◌<◌, ◌≤◌}
+use Prim.Native.Nat.{ℕ, zero, suc, ◌+◌, ◌-◌, ◌<◌, ◌≤◌, min}
 use native.Mathlib.Omega.{arith}
 use native.Mathlib.Numerals.{add-one}
 use mathlib.Core.Path.{◌≡◌, refl, sym, ap, ◌∙◌}
+use mathlib.Core.Logic.{⊎_elim}
+use Rattle.std.proofs.lemmas.Bool.{cases_lt}
 use mathlib.Core.List.{List, [], ◌∷◌}
 use lib.ListN.{length, get_or, take}
 use lib.Seq.{take_all}
@@ -36,6 +38,11 @@ next_length (a ∷ line) k h = rw add-one (onward_next nought a line k (omega ar
 pub whole_length : (line : List Point) (k j : ℕ) → length line ≤ k + 1 → k ≤ j → length_to line k ≡ length_to line j
 unfolding length_to
 whole_length line k j h l = ap length_of (take_all (suc k) line (omega arith) ∙ sym (take_all (suc j) line (omega arith)))
+
+-- to vertex k, or to the last before it
+pub last_length : (line : List Point) (k i : ℕ) → i ≡ min k (length line - 1) → length_to line i ≡ length_to line k
+last_length line k i e =
+    ⊎_elim (λ (h : k < length line). let q : i ≡ k = omega arith in ap (length_to line) q) (λ (h : length line ≤ k). whole_length line i k (omega arith) (omega arith)) (cases_lt k (length line))
 
 sums_at : (sum : Float) (a : Point) (line : List Point) (k : ℕ) → k ≤ length line → get_or (sums_of sum a line) k nan ≡ onward sum a (take k line)
 unfolding sums_of onward

@@ -10,16 +10,9 @@ use lengths::{metres, vertex, vertices};
 pub fn length_to(lat: &[f64], lon: &[f64], k: usize) -> f64
     ensures { result ≡ length_to (line_of lat.now lon.now) k }
 {
-    let n = vertices(lat, lon);
     let mut sum = 0.0;
-    let mut i = 0;
-    while i < k {
-        let next = i + 1;
-        if n <= next {
-            return sum;
-        }
-        sum = sum + metres(vertex(lat, lon, i), vertex(lat, lon, next));
-        i = next;
+    for i in 0..k.min(vertices(lat, lon).saturating_sub(1)) {
+        sum += metres(vertex(lat, lon, i), vertex(lat, lon, i + 1));
     }
     sum
 }

@@ -9,8 +9,7 @@ ghost use Rattle.first_departures.specs.Firsts.{first_departure};
 ghost use Rattle.sailings.specs.Sailing.{InTime, local_at, trip_from, sailing_trip};
 
 use crate::departure::{has_departure, local};
-use first_departures::{Moment, first_departure};
-use ids::Found;
+use first_departures::first_departure;
 use lent_plans::plan_of;
 use matching::{Named, resolve};
 use moments::{today, yesterday};
@@ -18,7 +17,13 @@ use sailing_rows::{base_key, offset, route};
 use tables::Tables;
 
 // Of a sailing whose first departure is this.
-fn trip_from(bytes: &[u8], words: &[u32], times: &[i64], t: Tables, first: Moment) -> Found
+fn trip_from(
+    bytes: &[u8],
+    words: &[u32],
+    times: &[i64],
+    t: Tables,
+    first: Option<u64>,
+) -> Option<usize>
     requires ready { Ready bytes.now words.now (named_of t) (plan_of t) }
     requires in_time { InTime first }
     requires in_reach { InReach (local_at first (offset_of times.now t.sailing)) }
@@ -44,7 +49,7 @@ fn trip_from(bytes: &[u8], words: &[u32], times: &[i64], t: Tables, first: Momen
 }
 
 // The trip that it stands for: matched by its key, its route and its first departure.
-pub fn sailing_trip(bytes: &[u8], words: &[u32], times: &[i64], t: Tables) -> Found
+pub fn sailing_trip(bytes: &[u8], words: &[u32], times: &[i64], t: Tables) -> Option<usize>
     requires ready { Ready bytes.now words.now (named_of t) (plan_of t) }
     requires in_time { InTime (first_departure bytes.now t.updates times.now) }
     requires in_reach { InReach (local_at (first_departure bytes.now t.updates times.now) (offset_of times.now t.sailing)) }

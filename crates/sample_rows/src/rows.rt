@@ -5,48 +5,40 @@ ghost use Rattle.courses.specs.Course.{row_after};
 ghost use Rattle.sample_rows.specs.Samples.{is_sample, sample_from};
 
 use courses::{Course, flagged};
-use ids::Found;
 
 // Whether row k has a distance and its stop a position.
+#[tactic(auto, unfolding(crate::specs::Samples::is_sample))]
 fn is_sample(bytes: &[u8], words: &[u32], c: Course, k: usize) -> bool
     ensures { result ≡ is_sample bytes.now words.now c k }
 {
-    let measured = c.times.measured;
-    let stop = c.times.stop;
-    let positioned = c.stops.positioned;
-    if flagged(bytes, measured, k) {
-        return flagged(bytes, positioned, ids::cell(words, stop, k) as usize);
-    }
-    false
+    let stop = ids::cell(words, c.times.stop, k) as usize;
+    flagged(bytes, c.times.measured, k) && flagged(bytes, c.stops.positioned, stop)
 }
 
 // The first row that is a sample, of n rows from `from` on.
-pub fn first_sample(bytes: &[u8], words: &[u32], c: Course, from: u32, n: u32) -> Found
+#[tactic(auto, using(ids::proofs::Search::first_miss))]
+pub fn first_sample(bytes: &[u8], words: &[u32], c: Course, from: u32, n: u32) -> Option<usize>
     ensures { result ≡ row_after from (first (sample_from bytes.now words.now c from) n) }
 {
-    let rows = n as usize;
-    let mut k = 0;
-    while k < rows {
+    for k in 0..n as usize {
         let row = from as usize + k;
         if is_sample(bytes, words, c, row) {
-            return Found::At(row);
+            return Some(row);
         }
-        k += 1;
     }
-    Found::Nothing
+    None
 }
 
 // The last.
-pub fn last_sample(bytes: &[u8], words: &[u32], c: Course, from: u32, n: u32) -> Found
+#[tactic(auto, using(ids::proofs::Search::last_hit, ids::proofs::Search::last_skip, ids::proofs::Search::last_miss))]
+pub fn last_sample(bytes: &[u8], words: &[u32], c: Course, from: u32, n: u32) -> Option<usize>
     ensures { result ≡ row_after from (last (sample_from bytes.now words.now c from) n) }
 {
-    let mut k = n as usize;
-    while 0 < k {
-        k -= 1;
+    for k in (0..n as usize).rev() {
         let row = from as usize + k;
         if is_sample(bytes, words, c, row) {
-            return Found::At(row);
+            return Some(row);
         }
     }
-    Found::Nothing
+    None
 }

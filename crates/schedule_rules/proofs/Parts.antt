@@ -1,14 +1,14 @@
 -- What is so of each part of the stop times, and of the trips' shapes, where no cause of it is there. A number after `at` is a cause's place in the part's list.
--- `Rattle.refusals.proofs.Facts` has what each kind of fact says, and `counted` for the part's columns and counts.
+-- `Rattle.verdicts.proofs.Facts` has what each kind of fact says, and `counted` for the part's columns and counts.
 use Prim.Native.Nat.{ℕ}
 use lib.ListN.{drop}
 use Rattle.tables.specs.Pools.{Pools}
-use Rattle.refusals.specs.Refuse.{always, where_set}
+use Rattle.tables.specs.Marks.{always, where_set}
 use Rattle.tables.specs.declared.bounds.Bounds.{Bounds}
 use Rattle.tables.specs.declared.lent.StopTimes.{StopTimes}
 use Rattle.tables.specs.declared.lent.Trips.{Trips}
-use Rattle.refusals.proofs.Passed.{Clear, clear_drop}
-use Rattle.refusals.proofs.Facts.{Below, below, Finite, finite}
+use Rattle.verdicts.proofs.Passed.{Clear, clear_drop}
+use Rattle.verdicts.proofs.Facts.{Below, below, Finite, finite}
 use Rattle.trip_rules.specs.Parts.{trips_causes}
 use Rattle.trip_rules.proofs.Parts.{at_trips}
 use Rattle.schedule_rules.specs.Parts.{calls_causes, placing_causes, call_times_causes}

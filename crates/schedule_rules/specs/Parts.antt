@@ -1,7 +1,8 @@
 -- The causes of the stop times: a refusal's number, and the fault that it is given for. The table has as many rows as the column that `n` is taken of.
 -- What a column says of another table stands apart, since an operation may be lent the one and not the other.
 use Rattle.std.specs.Prelude.{ℕ, List, [], ◌∷◌}
-use Rattle.refusals.specs.Refuse.{Cause, always, where_set, cause}
+use Rattle.verdicts.specs.Refuse.{Cause, cause}
+use Rattle.tables.specs.Marks.{always, where_set}
 use Rattle.tables.specs.declared.bounds.Bounds.{Bounds}
 use Rattle.tables.specs.declared.mark.Pool.TheVariants.{Bytes, Words, Dists}
 use Rattle.faults.specs.declared.fault.Test.TheVariants.{Column, Over, Reaches, NotFinite}

@@ -3,42 +3,37 @@ ghost use Rattle.std.specs.Prelude.{◌≡◌, ◌-◌, max};
 ghost use Rattle.scheduled_runs.specs.Run.{departure_of, run_between, run_of};
 
 use crate::sequence::last_with;
-use ids::{Found, cell};
+use ids::cell;
 use tables::{StopTimes, Trips};
 
 // The seconds from a departure to an arrival, 30 at least.
 fn span(arrival: u32, departure: u32) -> u32
     ensures { result ≡ max (arrival - departure) 30 }
 {
-    if arrival < departure {
-        return 30;
-    }
-    if arrival - departure < 30 {
-        return 30;
-    }
-    arrival - departure
+    arrival.saturating_sub(departure).max(30)
 }
 
 // The departure of a row, or 0.
-fn departure(words: &[u32], times: StopTimes, row: Found) -> u32
+fn departure(words: &[u32], times: StopTimes, row: Option<usize>) -> u32
     ensures { result ≡ departure_of words.now times row }
 {
-    let departures = times.departure;
     match row {
-        Found::At(row) => cell(words, departures, row),
-        Found::Nothing => 0,
+        Some(row) => cell(words, times.departure, row),
+        None => 0,
     }
 }
 
 // From the one row's departure to the other's arrival; 120 where there is no arrival.
-fn between(words: &[u32], times: StopTimes, arrives: Found, departs: Found) -> u32
+fn between(words: &[u32], times: StopTimes, arrives: Option<usize>, departs: Option<usize>) -> u32
     ensures { result ≡ run_between words.now times arrives departs }
 {
-    let Found::At(row) = arrives else {
+    let Some(row) = arrives else {
         return 120;
     };
-    let arrivals = times.arrival;
-    span(cell(words, arrivals, row), departure(words, times, departs))
+    span(
+        cell(words, times.arrival, row),
+        departure(words, times, departs),
+    )
 }
 
 // From one sequence of the trip to another; each is the last row that has it.
@@ -46,13 +41,13 @@ pub fn run_seconds(
     words: &[u32],
     trips: Trips,
     times: StopTimes,
-    trip: Found,
+    trip: Option<usize>,
     from: u32,
     to: u32,
 ) -> u32
     ensures { result ≡ run_of words.now trips times trip from to }
 {
-    let Found::At(trip) = trip else {
+    let Some(trip) = trip else {
         return 120;
     };
     let firsts = trips.first;

@@ -8,10 +8,10 @@ use Rattle.gregorian.proofs.Months.{months_bound}
 use Rattle.gregorian.proofs.Years.{years_bound}
 use Rattle.tables.specs.Pools.{Pools}
 use Rattle.tables.specs.Bounds.{chart_bounds}
-use Rattle.refusals.specs.Refuse.{refusal_of}
+use Rattle.verdicts.specs.Refuse.{refusal_of}
 use Rattle.tables.specs.declared.lent.Service.{Service}
 use Rattle.tables.specs.declared.lent.Tables.{Tables}
-use Rattle.refusals.proofs.Facts.{part_at}
+use Rattle.verdicts.proofs.Facts.{part_at}
 use Rattle.calendar_rules.proofs.Parts.{calendar_feeds_ascend, ranges_ascend, exceptions_ascend, exception_days, exception_dates}
 use Rattle.checks.specs.Operations.{service_day_causes}
 use Rattle.checks.proofs.Operations.{Calendar, service_day_holds}

@@ -2,11 +2,11 @@
 use Rattle.std.specs.Prelude.{ℕ, Bool, List}
 use Rattle.ids.specs.Pool.{cell_of, id_of}
 use Rattle.days.specs.Days.{ordinal}
-use Rattle.measure.specs.Answer.{Answer}
+use Rattle.refusals.specs.Answer.{Answer}
 use Rattle.answers.specs.Answers.{unless_refused}
 use Rattle.tables.specs.Pools.{Pools}
 use Rattle.tables.specs.Bounds.{chart_bounds}
-use Rattle.refusals.specs.Refuse.{refusal_of}
+use Rattle.verdicts.specs.Refuse.{refusal_of}
 use Rattle.tables.specs.declared.lent.Service.{Service}
 use Rattle.tables.specs.declared.lent.Tables.{Tables}
 use Rattle.checks.specs.Operations.{service_day_causes}

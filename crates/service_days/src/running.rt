@@ -6,8 +6,9 @@ ghost use Rattle.timetable_answers.specs.Answers.{run_answer};
 ghost use Rattle.service_days.specs.Services.{service_runs, running_of};
 
 use checks::check_service;
+use refusals::number_or_zero;
 use services::runs;
-use tables::{Bounds, Service, Tables};
+use tables::{Bounds, Lent, Service, Tables};
 use timetable_answers::{Running, run_answer};
 
 // Whether it runs, of tables that are not refused.
@@ -46,7 +47,14 @@ pub fn service_runs(
 ) -> Running
     ensures { run_answer result ≡ running_of (pools bytes.now words.now times.now reals.now dists.now) t s }
 {
-    let refusal = check_service(bytes, words, times, reals, dists, Bounds::chart(), t, s);
+    let lent = Lent {
+        bytes,
+        words,
+        times,
+        reals,
+        dists,
+    };
+    let refusal = number_or_zero(&check_service(&lent, Bounds::chart(), t, s));
     if refusal != 0 {
         return Running::Refused(refusal);
     }

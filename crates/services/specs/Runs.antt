@@ -1,10 +1,8 @@
 -- Which services run on a day, as the GTFS Schedule reference has it. A day is its date's ordinal.
-use Rattle.std.specs.Prelude.{ℕ, Bool, false, not, ◌&&◌, ◌||◌, List}
+use Rattle.std.specs.Prelude.{ℕ, Bool, false, not, ◌&&◌, ◌||◌, List, Option, Some, None}
 use Rattle.ids.specs.First.{first, is_at}
 use Rattle.ids.specs.Pool.{id_of}
 use Rattle.ids.specs.Rows.{row_of, Ascending}
-use Rattle.ids.specs.declared.lookup.Found.{Found}
-use Rattle.ids.specs.declared.lookup.Found.TheVariants.{At, Nothing}
 use Rattle.tables.specs.declared.lent.Calendars.{Calendars}
 use Rattle.tables.specs.declared.lent.Exceptions.{Exceptions}
 use Rattle.tables.specs.declared.lent.Ranges.{Ranges}
@@ -30,9 +28,9 @@ module _ (bytes words : List ℕ) where
   excepted e feed service day flag = is_at (first (row_is (stand_of bytes words (exception_rows e) feed service day flag)) e.date.n)
 
   -- the row found, if any, has the day
-  abbrev pub range_has : Ranges → ℕ → Found → Bool
-  range_has g day (At k) = in_range bytes words g day k
-  range_has g day Nothing = false
+  abbrev pub range_has : Ranges → ℕ → Option ℕ → Bool
+  range_has g day (Some k) = in_range bytes words g day k
+  range_has g day None = false
 
   -- the service's range has the day
   unfoldable pub ranged : Ranges → List ℕ → List ℕ → ℕ → Bool

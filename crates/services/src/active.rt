@@ -3,7 +3,6 @@ ghost use Rattle.std.specs.Prelude.{◌≡◌};
 ghost use Rattle.row_lookup.specs.Rows.{Ascend};
 ghost use Rattle.services.specs.Runs.{excepted, exception_rows, ranged, range_rows, runs_of, Calendared};
 
-use ids::Found;
 use row_lookup::row_of;
 use row_stands::Rows;
 use service_ranges::in_range;
@@ -36,8 +35,8 @@ fn is_excepted(
         day,
         flag,
     ) {
-        Found::At(_) => true,
-        Found::Nothing => false,
+        Some(_) => true,
+        None => false,
     }
 }
 
@@ -59,8 +58,8 @@ fn is_ranged(bytes: &[u8], words: &[u32], g: Ranges, feed: &[u8], service: &[u8]
         0,
         0,
     ) {
-        Found::At(k) => in_range(bytes, words, g, day, k),
-        Found::Nothing => false,
+        Some(k) => in_range(bytes, words, g, day, k),
+        None => false,
     }
 }
 
@@ -80,8 +79,8 @@ pub fn runs(
 {
     let feeds = c.feed;
     match ids::find(bytes, words, feeds, feed) {
-        Found::At(_) => {}
-        Found::Nothing => return true,
+        Some(_) => {}
+        None => return true,
     }
     if is_excepted(bytes, words, e, feed, service, day, 1) {
         return false;

@@ -1,4 +1,6 @@
 -- A part of a line, by its columns. Assumes nothing.
+use Rattle.std.specs.Prelude.{Option}
+use Rattle.lengths.specs.declared.line.Point.{Point}
 use Prim.Native.Nat.{ℕ, zero, suc, ◌+◌, ◌-◌, ◌<◌, ◌≤◌}
 use native.Mathlib.Omega.{arith}
 use mathlib.Core.Path.{◌≡◌, refl, ap, ◌∙◌}
@@ -8,7 +10,6 @@ use lib.ListN.{length, take, drop, length-take, length-drop, length-map}
 use Rattle.lengths.specs.Line.{line_of}
 use Rattle.lengths.proofs.Rows.{vertex_count}
 use Rattle.line_parts.specs.declared.part.Part.{Part}
-use Rattle.projection.specs.declared.cursor.Position.{Position}
 use Rattle.point_columns.specs.Drawn.{lats_of, lons_of}
 use Rattle.leg_points.specs.Leg.{leg_part, vertices_of, part_drawn}
 use Rattle.leg_parts.specs.declared.ends.Ends.{Ends}
@@ -39,7 +40,7 @@ part_lons (y ∷ ys) (x ∷ xs) zero (suc n) h = ap (λ (zs : List Float). x ∷
 part_lons (y ∷ ys) (x ∷ xs) (suc a) n h = part_lons ys xs a n (omega arith)
 
 -- what is drawn of a leg along a line that has a vertex
-module _ (lats lons : List Float) (some : 0 < length (line_of lats lons)) (stops : List Position) (leg : Ends) {part : Part} (e : part ≡ leg_part (line_of lats lons) stops leg) where
+module _ (lats lons : List Float) (some : 0 < length (line_of lats lons)) (stops : List (Option Point)) (leg : Ends) {part : Part} (e : part ≡ leg_part (line_of lats lons) stops leg) where
   pub within : Within (line_of lats lons) part
   within = rw e (part_within (line_of lats lons) some stops leg)
 

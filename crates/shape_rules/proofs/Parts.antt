@@ -1,5 +1,5 @@
 -- What is so of shapes, points and measures where no cause of them is there. A number after `at` is a cause's place in the part's list.
--- `Rattle.refusals.proofs.Facts` has what each kind of fact says, and `counted` for the part's columns and counts.
+-- `Rattle.verdicts.proofs.Facts` has what each kind of fact says, and `counted` for the part's columns and counts.
 use Prim.Native.Nat.{ℕ, ◌+◌}
 use mathlib.Core.Bool.{false}
 use lib.ListN.{drop}
@@ -7,12 +7,12 @@ use Rattle.ids.specs.Pool.{id_of}
 use Rattle.ids.specs.Rows.{Ascending}
 use Rattle.ids.specs.declared.pool.Span.{Span}
 use Rattle.tables.specs.Pools.{Pools}
-use Rattle.refusals.specs.Refuse.{always}
+use Rattle.tables.specs.Marks.{always}
 use Rattle.tables.specs.declared.bounds.Bounds.{Bounds}
 use Rattle.tables.specs.declared.lent.Points.{Points}
 use Rattle.tables.specs.declared.lent.Shapes.{Shapes}
-use Rattle.refusals.proofs.Passed.{Clear, clear_drop, clear_part}
-use Rattle.refusals.proofs.Facts.{Below, below, Finite, finite, Numbers, numbers, OnGlobe, on_the_globe, RangesWithin, ranges_within, by_id, IdsHold, ids_hold}
+use Rattle.verdicts.proofs.Passed.{Clear, clear_drop, clear_part}
+use Rattle.verdicts.proofs.Facts.{Below, below, Finite, finite, Numbers, numbers, OnGlobe, on_the_globe, RangesWithin, ranges_within, by_id, IdsHold, ids_hold}
 use Rattle.shape_rules.specs.Parts.{shapes_causes, points_causes, points_within_causes, measures_causes}
 
 module _ (p : Pools) where

@@ -2,7 +2,8 @@
 use Rattle.std.specs.Prelude.{ℕ, ◌+◌, false, List, [], ◌∷◌, ◌++◌}
 use Rattle.ids.specs.declared.pool.Span.{Span}
 use Rattle.column_order.specs.declared.order.Key.TheVariants.{Id}
-use Rattle.refusals.specs.Refuse.{Cause, always, cause, id_causes}
+use Rattle.verdicts.specs.Refuse.{Cause, cause, id_causes}
+use Rattle.tables.specs.Marks.{always}
 use Rattle.tables.specs.declared.bounds.Bounds.{Bounds}
 use Rattle.tables.specs.declared.mark.Pool.TheVariants.{Words, Reals, Dists}
 use Rattle.faults.specs.declared.fault.Test.TheVariants.{Column, Over, Reaches, OffGlobe, Unsorted, EndsPast, NotFinite, NotANumber}

@@ -1,11 +1,7 @@
 -- Document 01's cases that hold by proof, in its order.
-use Rattle.std.specs.Prelude.{ℕ, ◌+◌, ◌≡◌, true, List, [], ◌∷◌, leb, ℤ, pos, negsuc, length, get_or}
-use Rattle.ids.specs.declared.lookup.Found.{Found}
-use Rattle.ids.specs.declared.lookup.Found.TheVariants.{At, Nothing}
+use Rattle.std.specs.Prelude.{ℕ, ◌+◌, ◌≡◌, true, List, [], ◌∷◌, leb, ℤ, pos, negsuc, length, get_or, Option, Some, None}
 use Rattle.day_counts.specs.Weekdays.{weekday_of}
 use Rattle.days.specs.Read.{read_date_of, refusal_of}
-use Rattle.days.specs.declared.date.ReadDate.{ReadDate}
-use Rattle.days.specs.declared.date.ReadDate.TheVariants.{Day, NotADate}
 use Rattle.maths.specs.Series.{whole}
 use Rattle.unit_scales.specs.Scale.{decimal, snap_unit_scale}
 use Rattle.refs.specs.Refs.{journey_id_of}
@@ -20,9 +16,9 @@ pub data Answer : Type 0 where
   day : ℤ → ℕ → Answer
   refused : ℕ → Answer
 
-abbrev answer : ReadDate → Answer
-answer (Day d) = day d (weekday_of d)
-answer NotADate = refused (refusal_of NotADate)
+abbrev answer : Option ℤ → Answer
+answer (Some d) = day d (weekday_of d)
+answer None = refused (refusal_of None)
 
 abbrev pub answer_of : ℕ → Answer
 answer_of n = answer (read_date_of n)
@@ -52,7 +48,7 @@ abbrev daily_at : ℕ → List ℕ → ℕ → Fit
 daily_at second departures k = daily second (get_or departures k 0)
 
 -- which of these departures is matched at that second
-abbrev pub matched : ℕ → List ℕ → Found
+abbrev pub matched : ℕ → List ℕ → Option ℕ
 matched second departures = alone (daily_at second departures) (length departures) (best_of (daily_at second departures) (length departures))
 
 abbrev pub Soundings : Type 0
@@ -66,9 +62,9 @@ Soundings =
     -- the first stop's text yields "1234", the second's none
     × (stop_digits_of long_stop ≡ 49 ∷ 50 ∷ 51 ∷ 52 ∷ []) × (stop_digits_of short_stop ≡ [])
     -- at second 36,000: 36,060 and 36,180 match the first; 36,061 and 36,181 none; 36,061 and 36,182 the first
-    × (matched 36000 (36060 ∷ 36180 ∷ []) ≡ At 0) × (matched 36000 (36061 ∷ 36181 ∷ []) ≡ Nothing) × (matched 36000 (36061 ∷ 36182 ∷ []) ≡ At 0)
+    × (matched 36000 (36060 ∷ 36180 ∷ []) ≡ Some 0) × (matched 36000 (36061 ∷ 36181 ∷ []) ≡ None) × (matched 36000 (36061 ∷ 36182 ∷ []) ≡ Some 0)
     -- 36,900 alone matches, 36,901 does not
-    × (matched 36000 (36900 ∷ []) ≡ At 0) × (matched 36000 (36901 ∷ []) ≡ Nothing)
+    × (matched 36000 (36900 ∷ []) ≡ Some 0) × (matched 36000 (36901 ∷ []) ≡ None)
     -- yesterday's 86,460 at second 0 is 60 seconds away
     × (away (daily 0 86460) ≡ 60)
     -- beside document 01's: the first date, the day before day 0, and the last date

@@ -1,5 +1,5 @@
 -- Two distances along a line, in metres, and the way that it is sailed between them. Definitions only.
-use Rattle.std.specs.Prelude.{cond, Float}
+use Rattle.std.specs.Prelude.{cond, Float, Option, Some, None}
 use Rattle.std.specs.Float.{binary64}
 use Rattle.std.specs.Float.Ieee.{add, sub, mul, div, lt, le}
 use Rattle.floats.specs.Number.{one}
@@ -10,18 +10,16 @@ use Rattle.ways.specs.Way.{turned_of}
 use Rattle.ways.specs.declared.way.Way.{Way}
 use Rattle.ways.specs.declared.way.Way.TheVariants.{With, Against}
 use Rattle.spans.specs.declared.span.Span.{Span}
-use Rattle.spans.specs.declared.span.Spanned.{Spanned}
-use Rattle.spans.specs.declared.span.Spanned.TheVariants.{Over, Short}
 
 abbrev pub half : Float
 half = div binary64 one (whole 2)
 
 -- the span, unless it is under half a metre
-unfoldable pub spread : Float → Float → Way → Spanned
-spread lo hi way = cond (lt (abs_of (sub binary64 hi lo)) half) Short (Over (record { lo = lo; hi = hi; way = way }))
+unfoldable pub spread : Float → Float → Way → Option Span
+spread lo hi way = cond (lt (abs_of (sub binary64 hi lo)) half) None (Some (record { lo = lo; hi = hi; way = way }))
 
 -- from the distance d₀ to the distance d₁
-unfoldable pub span_of : Float → Float → Spanned
+unfoldable pub span_of : Float → Float → Option Span
 span_of d₀ d₁ = cond (le d₀ d₁) (spread d₀ d₁ With) (spread d₁ d₀ Against)
 
 -- the length along the line at a fraction of a span in sailing direction

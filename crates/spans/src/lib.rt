@@ -4,4 +4,4 @@
 
 mod span; // two distances in the order of the vertices, and the way between them
 
-pub use span::{Span, Spanned, feed_metres, span_of, target};
+pub use span::{Span, feed_metres, span_of, target};

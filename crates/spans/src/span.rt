@@ -15,39 +15,33 @@ pub struct Span {
     pub way: Way,
 }
 
-#[derive(Clone, Copy)]
-pub enum Spanned {
-    // Half a metre at least; NaN counts as that.
-    Over(Span),
-    // Less.
-    Short,
-}
-
 // The span, unless it is short.
-fn unless_short(lo: f64, hi: f64, way: Way) -> Spanned
+fn unless_short(lo: f64, hi: f64, way: Way) -> Option<Span>
     ensures { result ≡ spread lo hi way }
 {
     if abs(hi - lo) < 0.5 {
-        return Spanned::Short;
+        None
+    } else {
+        Some(Span { lo, hi, way })
     }
-    Spanned::Over(Span { lo, hi, way })
 }
 
 // From the distance d0 to the distance d1.
-pub fn span_of(d0: f32, d1: f32) -> Spanned
+#[tactic(auto, unfolding(crate::specs::Span::span_of))]
+pub fn span_of(d0: f32, d1: f32) -> Option<Span>
     ensures { result ≡ span_of d0 d1 }
 {
+    let from = f32_to_f64_with_nan(d0);
+    let to = f32_to_f64_with_nan(d1);
     if d0 <= d1 {
-        return unless_short(f32_to_f64_with_nan(d0), f32_to_f64_with_nan(d1), Way::With);
+        unless_short(from, to, Way::With)
+    } else {
+        unless_short(to, from, Way::Against)
     }
-    unless_short(
-        f32_to_f64_with_nan(d1),
-        f32_to_f64_with_nan(d0),
-        Way::Against,
-    )
 }
 
 // The length along the line at a fraction of a span in sailing direction.
+#[tactic(auto, unfolding(crate::specs::Span::target_of))]
 pub fn target(span: Span, frac: f64) -> f64
     ensures { result ≡ target_of span frac }
 {
@@ -56,6 +50,7 @@ pub fn target(span: Span, frac: f64) -> f64
 }
 
 // The metres of a feed's distance.
+#[tactic(auto, unfolding(crate::specs::Span::feed_metres))]
 pub fn feed_metres(a: f64, b: f64, d: f32) -> f32
     ensures { result ≡ feed_metres a b d }
 {

@@ -3,7 +3,9 @@ ghost use Rattle.std.specs.Prelude.{◌≡◌};
 ghost use Rattle.maths.specs.Trig.{cos_of, radians_of};
 ghost use Rattle.sphere_lengths.specs.Length.{haversin_of, way_of, haversine_of};
 
+use arcs::asin;
 use maths::{cos, radians, sin};
+use roots::root;
 
 // The globe, by its radius.
 #[derive(Clone, Copy)]
@@ -29,10 +31,11 @@ pub fn haversin(lat1: f64, lon1: f64, c1: f64, lat2: f64, lon2: f64) -> f64
 pub fn way(a: f64) -> f64
     ensures { result ≡ way_of a }
 {
-    2.0 * Globe::RADIUS * arcs::asin(roots::root(a))
+    2.0 * Globe::RADIUS * asin(root(a))
 }
 
 // The length of the way from one position to another, in metres.
+#[tactic(auto, unfolding(crate::specs::Length::haversine_of))]
 pub fn haversine(lat1: f64, lon1: f64, lat2: f64, lon2: f64) -> f64
     ensures { result ≡ haversine_of lat1 lon1 lat2 lon2 }
 {

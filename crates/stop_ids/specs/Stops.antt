@@ -1,8 +1,6 @@
 -- The stop that an update means: by its name, or by its sequence in the trip.
-use Rattle.std.specs.Prelude.{ℕ, Bool, cond, List}
+use Rattle.std.specs.Prelude.{ℕ, Bool, cond, List, Option, Some, None}
 use Rattle.ids.specs.First.{or_else}
-use Rattle.ids.specs.declared.lookup.Found.{Found}
-use Rattle.ids.specs.declared.lookup.Found.TheVariants.{At, Nothing}
 use Rattle.trip_ids.specs.Trips.{trip_of}
 use Rattle.stop_rows.specs.Rows.{row_stop}
 use Rattle.stop_rows.specs.declared.lookup.Lookup.{Lookup}
@@ -10,11 +8,11 @@ use Rattle.stop_keys.specs.Names.{named_stop}
 
 module _ (bytes words : List ℕ) (l : Lookup) where
   -- the stop at a sequence in the trip found
-  abbrev pub row_stop_of : Found → ℕ → Found
-  row_stop_of (At trip) sequence = row_stop bytes words l trip sequence
-  row_stop_of Nothing sequence = Nothing
+  abbrev pub row_stop_of : Option ℕ → ℕ → Option ℕ
+  row_stop_of (Some trip) sequence = row_stop bytes words l trip sequence
+  row_stop_of None sequence = None
 
   -- the stop that an update means: by its name, if it has one, or else by its sequence in the trip whose id is the base key
-  unfoldable pub stop_of : List ℕ → List ℕ → Bool → List ℕ → ℕ → Found
+  unfoldable pub stop_of : List ℕ → List ℕ → Bool → List ℕ → ℕ → Option ℕ
   stop_of feed base named s sequence =
-      or_else (cond named (named_stop bytes words l feed s) Nothing) (row_stop_of (trip_of bytes words l.tripkeys base) sequence)
+      or_else (cond named (named_stop bytes words l feed s) None) (row_stop_of (trip_of bytes words l.tripkeys base) sequence)

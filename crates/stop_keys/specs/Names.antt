@@ -1,11 +1,9 @@
 -- The stop that a name stands for: by its text, or by the digits in it. A stop is the number that a row of the stop ids has; one without a position is as none.
-use Rattle.std.specs.Prelude.{ℕ, cond, List, [], ◌∷◌, ◌++◌, eqb, length}
+use Rattle.std.specs.Prelude.{ℕ, cond, List, [], ◌∷◌, ◌++◌, eqb, length, Option, Some, None}
 use Rattle.ids.specs.First.{or_else}
 use Rattle.ids.specs.Pool.{cell_of, id_of}
 use Rattle.ids.specs.Rows.{row_of, GoodIds}
 use Rattle.texts.specs.Texts.{holds}
-use Rattle.ids.specs.declared.lookup.Found.{Found}
-use Rattle.ids.specs.declared.lookup.Found.TheVariants.{At, Nothing}
 use Rattle.stop_digits.specs.Stops.{stop_digits_of}
 use Rattle.key_parts.specs.Words.{low_feed, high_feed}
 use Rattle.stop_rows.specs.Rows.{if_positioned}
@@ -49,19 +47,19 @@ module _ (bytes words : List ℕ) (l : Lookup) where
     pub trip_ids : GoodIds (id_of bytes words l.tripkeys.id) l.tripkeys.id.starts.n
 
   -- the stop of the row found
-  abbrev pub stop_in : Found → Found
-  stop_in (At k) = if_positioned bytes l.stops (cell_of words l.stopkeys.row k)
-  stop_in Nothing = Nothing
+  abbrev pub stop_in : Option ℕ → Option ℕ
+  stop_in (Some k) = if_positioned bytes l.stops (cell_of words l.stopkeys.row k)
+  stop_in None = None
 
   -- the stop whose id is the key
-  unfoldable pub stop_at : List ℕ → Found
+  unfoldable pub stop_at : List ℕ → Option ℕ
   stop_at key = stop_in (row_of (id_of bytes words l.stopkeys.id) l.stopkeys.id.starts.n key)
 
   -- the stop of the first key that stands for one
-  unfoldable pub first_stop : List (List ℕ) → Found
-  first_stop [] = Nothing
+  unfoldable pub first_stop : List (List ℕ) → Option ℕ
+  first_stop [] = None
   first_stop (key ∷ keys) = or_else (stop_at key) (first_stop keys)
 
   -- the stop that a name stands for
-  unfoldable pub named_stop : List ℕ → List ℕ → Found
+  unfoldable pub named_stop : List ℕ → List ℕ → Option ℕ
   named_stop feed s = first_stop (stop_keys feed s)

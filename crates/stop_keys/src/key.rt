@@ -3,7 +3,6 @@ ghost use Rattle.std.specs.Prelude.{◌≡◌, ◌++◌};
 ghost use Rattle.ids.specs.First.{or_else};
 ghost use Rattle.stop_keys.specs.Names.{Known, stop_at, first_stop, feed_keys};
 
-use ids::Found;
 use stop_rows::{Lookup, if_positioned};
 
 // Or else the stop whose id the three parts joined are, of which some may be empty.
@@ -11,11 +10,11 @@ pub fn or_stop(
     bytes: &[u8],
     words: &[u32],
     l: Lookup,
-    found: Found,
+    found: Option<usize>,
     a: &[u8],
     b: &[u8],
     c: &[u8],
-) -> Found
+) -> Option<usize>
     requires { Known bytes.now words.now l }
     ensures { result ≡ or_else found (stop_at bytes.now words.now l (a.now ++ (b.now ++ c.now))) }
 {
@@ -23,17 +22,24 @@ pub fn or_stop(
     let row = l.stopkeys.row;
     let stops = l.stops;
     match found {
-        Found::At(k) => return Found::At(k),
-        Found::Nothing => {}
+        Some(k) => return Some(k),
+        None => {}
     }
     match keys::find_joined(bytes, words, id, b"", a, b, c) {
-        Found::At(k) => if_positioned(bytes, stops, ids::cell(words, row, k) as usize),
-        Found::Nothing => Found::Nothing,
+        Some(k) => if_positioned(bytes, stops, ids::cell(words, row, k) as usize),
+        None => None,
     }
 }
 
 // Or else by the keys of digits that begin with the feed.
-pub fn or_feed(bytes: &[u8], words: &[u32], l: Lookup, found: Found, feed: &[u8], d: &[u8]) -> Found
+pub fn or_feed(
+    bytes: &[u8],
+    words: &[u32],
+    l: Lookup,
+    found: Option<usize>,
+    feed: &[u8],
+    d: &[u8],
+) -> Option<usize>
     requires { Known bytes.now words.now l }
     ensures { result ≡ or_else found (first_stop bytes.now words.now l (feed_keys feed.now d.now)) }
 {

@@ -3,12 +3,11 @@ ghost use Rattle.std.specs.Prelude.{◌≤◌, ◌≡◌, length};
 ghost use Rattle.ids.specs.First.{or_else};
 ghost use Rattle.stop_keys.specs.Names.{Known, first_stop, plain_keys, text_keys, named_stop};
 
-use ids::Found;
 use stop_keys::{or_feed, or_stop};
 use stop_rows::Lookup;
 
 // Or else by the keys of digits that do not begin with the feed.
-fn or_plain(bytes: &[u8], words: &[u32], l: Lookup, found: Found, d: &[u8]) -> Found
+fn or_plain(bytes: &[u8], words: &[u32], l: Lookup, found: Option<usize>, d: &[u8]) -> Option<usize>
     requires { Known bytes.now words.now l }
     ensures { result ≡ or_else found (first_stop bytes.now words.now l (plain_keys d.now)) }
 {
@@ -29,7 +28,14 @@ fn or_plain(bytes: &[u8], words: &[u32], l: Lookup, found: Found, d: &[u8]) -> F
 }
 
 // Or else by the text, and the digits in it.
-fn or_text(bytes: &[u8], words: &[u32], l: Lookup, found: Found, feed: &[u8], text: &[u8]) -> Found
+fn or_text(
+    bytes: &[u8],
+    words: &[u32],
+    l: Lookup,
+    found: Option<usize>,
+    feed: &[u8],
+    text: &[u8],
+) -> Option<usize>
     requires { Known bytes.now words.now l }
     ensures { result ≡ or_else found (first_stop bytes.now words.now l (text_keys feed.now text.now)) }
 {
@@ -43,13 +49,13 @@ fn or_text(bytes: &[u8], words: &[u32], l: Lookup, found: Found, feed: &[u8], te
 }
 
 // The stop that a name stands for: by the name, or else, where that has no ':', by the feed, ':' and the name.
-pub fn named_stop(bytes: &[u8], words: &[u32], l: Lookup, feed: &[u8], s: &[u8]) -> Found
+pub fn named_stop(bytes: &[u8], words: &[u32], l: Lookup, feed: &[u8], s: &[u8]) -> Option<usize>
     requires known { Known bytes.now words.now l }
     requires feed_len_bound { length feed.now ≤ 96 }
     requires s_len_bound { length s.now ≤ 96 }
     ensures { result ≡ named_stop bytes.now words.now l feed.now s.now }
 {
-    let found = or_text(bytes, words, l, Found::Nothing, feed, s);
+    let found = or_text(bytes, words, l, None, feed, s);
     if texts::contains(s, b":") {
         return found;
     }

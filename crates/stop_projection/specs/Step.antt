@@ -2,7 +2,7 @@
 use Rattle.std.specs.Prelude.{ℕ, cond, List, eqb, ltb, Float, length}
 use Rattle.column_floats.specs.Real.{off_globe_at}
 use Rattle.columns.specs.Rows.{some}
-use Rattle.measure.specs.Answer.{Answer}
+use Rattle.refusals.specs.Answer.{Answer}
 use Rattle.globe.specs.Globe.{on_globe}
 use Rattle.answers.specs.Answers.{unless_refused}
 use Rattle.lengths.specs.Line.{line_of}

@@ -20,18 +20,12 @@ pub struct StopTime {
 pub fn filled(s: StopTime, d: f32, k: u8) -> StopTime
     ensures { result ≡ filled_of s d k }
 {
-    if s.measured {
-        return s;
-    }
-    if k == 0 {
+    if s.measured || k == 0 {
         return s;
     }
     StopTime {
-        stop: s.stop,
-        arrival: s.arrival,
-        departure: s.departure,
-        sequence: s.sequence,
         measured: true,
         dist: d,
+        ..s
     }
 }

@@ -23,10 +23,7 @@ pub enum Routed {
 fn is_roundabout(total: f64, prev: Point, next: Point) -> bool
     ensures { result ≡ roundabout total prev next }
 {
-    if total > max_of(metres(prev, next), 1.0) * 4.0 {
-        return total > 500.0;
-    }
-    false
+    total > max_of(metres(prev, next), 1.0) * 4.0 && total > 500.0
 }
 
 // The route over a part, unless it is refused.
@@ -41,16 +38,15 @@ fn unless_refused(
     ensures { result ≡ routed_of (line_of lat.now lon.now) part way prev next }
 {
     let route = route_of(lat, lon, part);
-    if route.total < 1.0 {
-        return Routed::Nothing;
+    if route.total < 1.0 || is_roundabout(route.total, prev, next) {
+        Routed::Nothing
+    } else {
+        Routed::Over(route, way)
     }
-    if is_roundabout(route.total, prev, next) {
-        return Routed::Nothing;
-    }
-    Routed::Over(route, way)
 }
 
 // From a stop to the next.
+#[tactic(auto, unfolding(crate::specs::Routed::route_between))]
 pub fn route_between(lat: &[f64], lon: &[f64], prev: Point, next: Point) -> Routed
     ensures { result ≡ route_between (line_of lat.now lon.now) prev next }
 {
@@ -61,14 +57,14 @@ pub fn route_between(lat: &[f64], lon: &[f64], prev: Point, next: Point) -> Rout
             first: i0,
             last: i1,
         };
-        return unless_refused(lat, lon, part, Way::With, prev, next);
-    }
-    if i1 < i0 {
+        unless_refused(lat, lon, part, Way::With, prev, next)
+    } else if i1 < i0 {
         let part = Part {
             first: i1,
             last: i0,
         };
-        return unless_refused(lat, lon, part, Way::Against, prev, next);
+        unless_refused(lat, lon, part, Way::Against, prev, next)
+    } else {
+        Routed::Nothing
     }
-    Routed::Nothing
 }

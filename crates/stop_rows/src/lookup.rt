@@ -2,7 +2,6 @@
 ghost use Rattle.std.specs.Prelude.{◌≡◌};
 ghost use Rattle.stop_rows.specs.Rows.{is_positioned, if_positioned};
 
-use ids::Found;
 use tables::{IdRows, StopTimes, Stops, Trips};
 
 #[derive(Clone, Copy)]
@@ -15,22 +14,20 @@ pub struct Lookup {
 }
 
 // Whether a stop has a position.
+#[tactic(auto, unfolding(crate::specs::Rows::is_positioned))]
 pub(crate) fn is_positioned(bytes: &[u8], stops: Stops, stop: usize) -> bool
     ensures { result ≡ is_positioned bytes.now stops stop }
 {
     let positioned = stops.positioned;
-    if columns::bit(bytes, positioned, stop) == 0 {
-        return false;
-    }
-    true
+    columns::bit(bytes, positioned, stop) != 0
 }
 
 // The stop, if it has a position.
-pub fn if_positioned(bytes: &[u8], stops: Stops, stop: usize) -> Found
+pub fn if_positioned(bytes: &[u8], stops: Stops, stop: usize) -> Option<usize>
     ensures { result ≡ if_positioned bytes.now stops stop }
 {
     if is_positioned(bytes, stops, stop) {
-        return Found::At(stop);
+        return Some(stop);
     }
-    Found::Nothing
+    None
 }

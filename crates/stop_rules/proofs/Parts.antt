@@ -1,14 +1,14 @@
 -- What is so of the stops where no cause of them is there. A number after `at` is a cause's place in the list.
--- `Rattle.refusals.proofs.Facts` has what each kind of fact says, and `counted` for the table's columns and counts.
+-- `Rattle.verdicts.proofs.Facts` has what each kind of fact says, and `counted` for the table's columns and counts.
 use Prim.Native.Nat.{ℕ}
 use mathlib.Core.Bool.{true, false}
 use lib.ListN.{drop}
 use Rattle.tables.specs.Pools.{Pools}
-use Rattle.refusals.specs.Refuse.{always, where_set}
+use Rattle.tables.specs.Marks.{always, where_set}
 use Rattle.tables.specs.declared.bounds.Bounds.{Bounds}
 use Rattle.tables.specs.declared.lent.Stops.{Stops}
-use Rattle.refusals.proofs.Passed.{Clear, clear_drop, clear_part}
-use Rattle.refusals.proofs.Facts.{OnGlobe, on_the_globe, IdsHold, ids_hold}
+use Rattle.verdicts.proofs.Passed.{Clear, clear_drop, clear_part}
+use Rattle.verdicts.proofs.Facts.{OnGlobe, on_the_globe, IdsHold, ids_hold}
 use Rattle.stop_rules.specs.Parts.{stops_causes}
 
 module _ (p : Pools) where

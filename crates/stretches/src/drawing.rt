@@ -5,7 +5,7 @@ ghost use Rattle.stretches.specs.Drawing.{bearing_of_way, between_of, first_of, 
 
 use crate::spot::Spot;
 use lengths::Point;
-use line_parts::{Part, less, next_point, point};
+use line_parts::{Part, next_point, point};
 
 // In degrees.
 #[derive(Clone, Copy)]
@@ -13,15 +13,6 @@ pub struct Drawn {
     pub lat: f64,
     pub lon: f64,
     pub bearing: f64,
-}
-
-// What an interpolation gives.
-#[derive(Clone, Copy)]
-pub enum Interpolated {
-    // This position.
-    At(Drawn),
-    // None.
-    Nothing,
 }
 
 // The bearing from p to q.
@@ -32,6 +23,7 @@ fn bearing_of_way(p: Point, q: Point) -> f64
 }
 
 // At the fraction t of the way from p to q.
+#[tactic(auto, unfolding(crate::specs::Drawing::between_of))]
 fn between(p: Point, q: Point, t: f64) -> Drawn
     ensures { result ≡ between_of p q t }
 {
@@ -43,25 +35,25 @@ fn between(p: Point, q: Point, t: f64) -> Drawn
 }
 
 // At the first vertex of a part, towards the next; bearing 0 where it has no other.
+#[tactic(auto, unfolding(crate::specs::Drawing::first_of))]
 fn first_of(lat: &[f64], lon: &[f64], part: Part) -> Drawn
     ensures { result ≡ first_of (line_of lat.now lon.now) part }
 {
     let p = point(lat, lon, part.first);
-    if part.first < part.last {
-        return Drawn {
-            lat: p.lat,
-            lon: p.lon,
-            bearing: bearing_of_way(p, next_point(lat, lon, part.first)),
-        };
-    }
+    let bearing = if part.first < part.last {
+        bearing_of_way(p, next_point(lat, lon, part.first))
+    } else {
+        0.0
+    };
     Drawn {
         lat: p.lat,
         lon: p.lon,
-        bearing: 0.0,
+        bearing,
     }
 }
 
 // At its last, from the one before.
+#[tactic(auto, unfolding(crate::specs::Drawing::last_of))]
 fn last_of(lat: &[f64], lon: &[f64], part: Part) -> Drawn
     ensures { result ≡ last_of (line_of lat.now lon.now) part }
 {
@@ -69,7 +61,7 @@ fn last_of(lat: &[f64], lon: &[f64], part: Part) -> Drawn
     Drawn {
         lat: p.lat,
         lon: p.lon,
-        bearing: bearing_of_way(point(lat, lon, less(part.last, 1)), p),
+        bearing: bearing_of_way(point(lat, lon, part.last.saturating_sub(1)), p),
     }
 }
 

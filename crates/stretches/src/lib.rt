@@ -8,5 +8,5 @@
 mod drawing; // the position and the bearing of a spot
 mod spot; // where on a part of a line
 
-pub use drawing::{Drawn, Interpolated, draw};
+pub use drawing::{Drawn, draw};
 pub use spot::Spot;

@@ -3,6 +3,7 @@ use Rattle.std.specs.Prelude.{ℕ, List, ℤ, Float, length, take, drop}
 use Rattle.ids.specs.declared.pool.Span.{Span}
 use Rattle.tables.specs.declared.mark.Mark.{Mark}
 use Rattle.tables.specs.declared.mark.Pool.{Pool}
+use Rattle.tables.specs.declared.pools.Lent.{Lent}
 use Rattle.tables.specs.declared.mark.Pool.TheVariants.{Bytes, Words, Times, Reals, Dists}
 
 pub record Pools : Type 0 where
@@ -14,6 +15,10 @@ pub record Pools : Type 0 where
 
 abbrev pub pools : List ℕ → List ℕ → List ℤ → List Float → List Float → Pools
 pools b w t r d = record { bytes = b; words = w; times = t; reals = r; dists = d }
+
+-- the pools that are lent, as lists
+abbrev pub pools_of : Lent → Pools
+pools_of lent = pools lent.bytes.now lent.words.now lent.times.now lent.reals.now lent.dists.now
 
 abbrev pub part_of : {A : Type 0} → List A → Span → List A
 part_of xs s = take s.n (drop s.at xs)

@@ -1,79 +1,40 @@
-// A column's part of its pool, cut where the pool ends.
-ghost use Rattle.std.specs.Prelude.{◌≡◌, take, drop};
+// The five pools that a caller lends, and a column's part of its pool.
+ghost use Rattle.std.specs.Prelude.{◌≡◌};
+ghost use Rattle.tables.specs.Pools.{part_of, pools_of, pool_length};
 
+use crate::mark::Pool;
 use ids::Span;
 
-pub fn bytes_of<'a>(pool: &'a [u8], span: Span) -> &'a [u8]
-    ensures { result.now ≡ take span.n (drop span.at pool.now) }
-{
-    let a = span.at as usize;
-    let n = span.n as usize;
-    if pool.len() < a {
-        return &pool[..0];
-    }
-    if pool.len() - a < n {
-        return &pool[a..];
-    }
-    let e = a + n;
-    &pool[a..e]
+/// What a caller lends: the pools that the columns of all tables lie in.
+#[derive(Clone, Copy)]
+pub struct Lent<'a> {
+    pub bytes: &'a [u8],
+    pub words: &'a [u32],
+    pub times: &'a [i64],
+    pub reals: &'a [f64],
+    pub dists: &'a [f32],
 }
 
-pub fn words_of<'a>(pool: &'a [u32], span: Span) -> &'a [u32]
-    ensures { result.now ≡ take span.n (drop span.at pool.now) }
-{
-    let a = span.at as usize;
-    let n = span.n as usize;
-    if pool.len() < a {
-        return &pool[..0];
+impl<'a> Lent<'a> {
+    /// How many elements a pool has.
+    pub fn pool_length(&self, pool: Pool) -> usize
+        ensures { result ≡ pool_length (pools_of self.now) pool }
+    {
+        match pool {
+            Pool::Bytes => self.bytes.len(),
+            Pool::Words => self.words.len(),
+            Pool::Times => self.times.len(),
+            Pool::Reals => self.reals.len(),
+            Pool::Dists => self.dists.len(),
+        }
     }
-    if pool.len() - a < n {
-        return &pool[a..];
-    }
-    let e = a + n;
-    &pool[a..e]
 }
 
-pub fn times_of<'a>(pool: &'a [i64], span: Span) -> &'a [i64]
-    ensures { result.now ≡ take span.n (drop span.at pool.now) }
+/// A column's part of its pool, cut where the pool ends.
+pub fn cut<'a, T>(pool: &'a [T], column: Span) -> &'a [T]
+    ensures { result.now ≡ part_of pool.now column }
 {
-    let a = span.at as usize;
-    let n = span.n as usize;
-    if pool.len() < a {
-        return &pool[..0];
-    }
-    if pool.len() - a < n {
-        return &pool[a..];
-    }
-    let e = a + n;
-    &pool[a..e]
-}
-
-pub fn reals_of<'a>(pool: &'a [f64], span: Span) -> &'a [f64]
-    ensures { result.now ≡ take span.n (drop span.at pool.now) }
-{
-    let a = span.at as usize;
-    let n = span.n as usize;
-    if pool.len() < a {
-        return &pool[..0];
-    }
-    if pool.len() - a < n {
-        return &pool[a..];
-    }
-    let e = a + n;
-    &pool[a..e]
-}
-
-pub fn dists_of<'a>(pool: &'a [f32], span: Span) -> &'a [f32]
-    ensures { result.now ≡ take span.n (drop span.at pool.now) }
-{
-    let a = span.at as usize;
-    let n = span.n as usize;
-    if pool.len() < a {
-        return &pool[..0];
-    }
-    if pool.len() - a < n {
-        return &pool[a..];
-    }
-    let e = a + n;
-    &pool[a..e]
+    let (_, rest) = pool.split_at(pool.len().min(column.at as usize));
+    let (part, _) = rest.split_at(rest.len().min(column.n as usize));
+    part
 }

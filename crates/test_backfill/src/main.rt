@@ -9,86 +9,62 @@
 #![tactic(auto)]
 
 mod ask; // ask.rt: the answer to a question
-mod put; // put.rt: numbers into pools
 mod script; // script.rt: the script's words
 
 use crate::script::Script;
+use fault_scripts::Place;
 use input_bytes::read_full;
 use std::io;
+use worlds::Pools;
 
 fn main(rt: HostRuntime) -> io::Result<()> {
     let mut text = [0u8; 262144];
     let mut bytes = [0u8; 4096];
     let mut words = [0u32; 4096];
+    let mut times = [0i64; 1];
     let mut reals = [0.0f64; 4096];
     let mut dists = [0.0f32; 4096];
     let n = read_full(&mut rt.stdin(), &mut text)?;
-    replay(
-        &rt,
-        &mut bytes,
-        &mut words,
-        &mut reals,
-        &mut dists,
-        &text[..n],
-    )
+    let mut pools = Pools {
+        bytes: &mut bytes,
+        words: &mut words,
+        times: &mut times,
+        reals: &mut reals,
+        dists: &mut dists,
+    };
+    replay(&rt, &mut pools, &text[..n])
 }
 
-fn replay(
-    out: &impl Print,
-    bytes: &mut [u8],
-    words: &mut [u32],
-    reals: &mut [f64],
-    dists: &mut [f32],
-    text: &[u8],
-) -> io::Result<()> {
-    let mut r = Script::new();
-    let mut i = 0;
-    while i < text.len() {
-        r = step(out, bytes, words, reals, dists, r, text[i])?;
-        i += 1;
+// Reads the script; a space or the end of a line ends a word.
+fn replay(out: &impl Print, pools: &mut Pools<'_>, text: &[u8]) -> io::Result<()> {
+    let mut script = Script::new();
+    for b in text {
+        match *b {
+            b' ' | b'\n' => {
+                act(out, pools, &mut script)?;
+                script.next_word();
+            }
+            b => script.spell(b),
+        }
     }
     Ok(())
 }
 
-// Reads a byte; a space or the end of a line ends a word.
-fn step(
-    out: &impl Print,
-    bytes: &mut [u8],
-    words: &mut [u32],
-    reals: &mut [f64],
-    dists: &mut [f32],
-    read: Script,
-    b: u8,
-) -> io::Result<Script> {
-    if b == b' ' {
-        return Ok(act(out, bytes, words, reals, dists, read)?.next_word());
-    }
-    if b == b'\n' {
-        return Ok(act(out, bytes, words, reals, dists, read)?.next_word());
-    }
-    Ok(read.spelled(b))
-}
-
 // Does what a word says; one that is none, or a number too large, does nothing.
-fn act(
-    out: &impl Print,
-    bytes: &mut [u8],
-    words: &mut [u32],
-    reals: &mut [f64],
-    dists: &mut [f32],
-    read: Script,
-) -> io::Result<Script> {
-    let letter = read.letter;
-    match letter {
-        b'b' | b'w' | b'r' | b'd' => Ok(read.placed()),
+fn act(out: &impl Print, pools: &mut Pools<'_>, script: &mut Script) -> io::Result<()> {
+    match script.letter {
+        b'b' | b'w' | b'r' | b'd' => {
+            script.place = Place {
+                pool: script.letter,
+                at: script.number as usize,
+            };
+        }
         b'=' | b'x' => {
-            put::one(bytes, words, reals, dists, read);
-            Ok(read.gone_on())
+            script.place.put(pools, script.number, false);
+            script.place.at = script.place.at.wrapping_add(1);
         }
-        b'?' => {
-            ask::answer(out, bytes, words, reals, dists, read.number)?;
-            Ok(read)
-        }
-        _ => Ok(read),
+        b'?' => ask::answer(out, pools, script.number)?,
+        _ => {}
     }
+    Ok(())
 }

@@ -1,14 +1,13 @@
 // The script's words.
-ghost use Rattle.std.specs.Prelude.{◌≤◌};
+use fault_scripts::{Place, digit};
 
 #[derive(Clone, Copy)]
 pub struct Script {
     // the word that is being read: its letter, 0 before it, and its number so far
     pub letter: u8,
     pub number: u64,
-    // where the next number goes: a pool's letter, and a place in it
-    pub pool: u8,
-    pub at: usize,
+    // where the next number goes
+    pub place: Place,
 }
 
 impl Script {
@@ -16,63 +15,22 @@ impl Script {
         Script {
             letter: 0,
             number: 0,
-            pool: 0,
-            at: 0,
+            place: Place { pool: 0, at: 0 },
         }
     }
 
-    // One byte more of a word.
-    pub(crate) fn spelled(mut self, b: u8) -> Self {
+    // One byte more of a word. What is no digit counts as 0, and a digit too many is left out.
+    pub(crate) fn spell(&mut self, b: u8) {
         if self.letter == 0 {
             self.letter = b;
-            return self;
+        } else if self.number < 0x1000_0000_0000_0000 {
+            let base = if self.letter == b'x' { 16 } else { 10 };
+            self.number = self.number * base + digit(b).unwrap_or(0);
         }
-        let d = digit(b);
-        if self.number >= 0x1000_0000_0000_0000 {
-            return self;
-        }
-        if self.letter == b'x' {
-            self.number = self.number * 16 + d;
-            return self;
-        }
-        self.number = self.number * 10 + d;
-        self
     }
 
-    pub(crate) fn next_word(mut self) -> Self {
+    pub(crate) fn next_word(&mut self) {
         self.letter = 0;
         self.number = 0;
-        self
     }
-
-    pub(crate) fn placed(mut self) -> Self {
-        self.pool = self.letter;
-        self.at = self.number as usize;
-        self
-    }
-
-    // After a number was put.
-    pub(crate) fn gone_on(mut self) -> Self {
-        self.at = std::num::wrapping_add_usize(self.at, 1);
-        self
-    }
-}
-
-// A hexadecimal digit's value, or 0 where it is none.
-fn digit(b: u8) -> u64
-    ensures { result ≤ 15 }
-{
-    if b < 48 {
-        return 0;
-    }
-    if b < 58 {
-        return (b - 48) as u64;
-    }
-    if b < 97 {
-        return 0;
-    }
-    if b < 103 {
-        return (b - 87) as u64;
-    }
-    0
 }

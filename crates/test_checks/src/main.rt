@@ -13,14 +13,12 @@
 // standard error, and no line after it is read.
 #![tactic(auto)]
 
-ghost use Rattle.std.specs.Prelude.{◌≤◌, length};
-
 mod ask; // ask.rt: the operations, and the answer to a question
 
-use fault_scripts::Script;
+use fault_scripts::{Fault, Script};
 use input_bytes::read_full;
 use std::io;
-use std::io::Read;
+use worlds::Pools;
 
 fn main(rt: HostRuntime) -> io::Result<()> {
     let mut text = [0u8; 524288];
@@ -29,177 +27,86 @@ fn main(rt: HostRuntime) -> io::Result<()> {
     let mut times = [0i64; 4096];
     let mut reals = [0.0f64; 131072];
     let mut dists = [0.0f32; 131072];
-    read(
-        &mut rt.stdin(),
-        &rt,
-        &rt.stderr(),
-        &mut text,
-        &mut bytes,
-        &mut words,
-        &mut times,
-        &mut reals,
-        &mut dists,
-    )
+    let n = read_full(&mut rt.stdin(), &mut text)?;
+    let mut pools = Pools {
+        bytes: &mut bytes,
+        words: &mut words,
+        times: &mut times,
+        reals: &mut reals,
+        dists: &mut dists,
+    };
+    replay(&rt, &rt.stderr(), &mut pools, &text[..n])
 }
 
-// Reads the script, and replays it.
-fn read(
-    stdin: &mut impl Read,
-    out: &impl Print,
-    err: &impl Print,
-    text: &mut [u8],
-    bytes: &mut [u8],
-    words: &mut [u32],
-    times: &mut [i64],
-    reals: &mut [f64],
-    dists: &mut [f32],
-) -> io::Result<()> {
-    let n = read_full(stdin, text)?;
-    replay(out, err, bytes, words, times, reals, dists, &text[..n])
-}
-
+// Answers the script, up to what is wrong in it.
 fn replay(
     out: &impl Print,
     err: &impl Print,
-    bytes: &mut [u8],
-    words: &mut [u32],
-    times: &mut [i64],
-    reals: &mut [f64],
-    dists: &mut [f32],
+    pools: &mut Pools<'_>,
     text: &[u8],
 ) -> io::Result<()> {
-    let end = line_end(text);
-    cases(
-        out,
-        err,
-        bytes,
-        words,
-        times,
-        reals,
-        dists,
-        &text[0..end],
-        text,
-    )
-}
-
-// Where the first line ends: at its newline, or at the end of the text.
-fn line_end(text: &[u8]) -> usize
-    ensures { result ≤ length text.now }
-{
-    let mut i = 0;
-    while i < text.len() {
-        if text[i] == b'\n' {
-            return i;
-        }
-        i += 1;
+    let mut script = Script::new();
+    match cases(out, pools, &mut script, text) {
+        Ok(()) => Ok(()),
+        Err(Fault::Io(error)) => Err(error),
+        Err(fault) => println!(err; "line {}: {fault}", script.line),
     }
-    i
 }
 
-// Every line. The clean world is laid out again after each.
+// Every line. The clean world, which the first line lays out, is laid out again after each.
 fn cases(
     out: &impl Print,
-    err: &impl Print,
-    bytes: &mut [u8],
-    words: &mut [u32],
-    times: &mut [i64],
-    reals: &mut [f64],
-    dists: &mut [f32],
-    clean: &[u8],
+    pools: &mut Pools<'_>,
+    script: &mut Script,
     text: &[u8],
-) -> io::Result<()> {
-    let mut r = Script::new();
-    let mut i = 0;
-    while i < text.len() {
-        r = case_step(
-            out, err, bytes, words, times, reals, dists, r, clean, text[i],
-        )?;
-        i += 1;
+) -> Result<(), Fault> {
+    let clean = text.split(|b| *b == b'\n').next().unwrap_or(text);
+    for b in text {
+        if *b == b'\n' {
+            end_word(out, pools, script)?;
+            script.next_line();
+            line(out, pools, script, clean)?;
+        } else {
+            step(out, pools, script, *b)?;
+        }
     }
     Ok(())
-}
-
-fn case_step(
-    out: &impl Print,
-    err: &impl Print,
-    bytes: &mut [u8],
-    words: &mut [u32],
-    times: &mut [i64],
-    reals: &mut [f64],
-    dists: &mut [f32],
-    read: Script,
-    clean: &[u8],
-    b: u8,
-) -> io::Result<Script> {
-    if b == b'\n' {
-        let r = step(out, err, bytes, words, times, reals, dists, read, b' ')?.next_line();
-        return line(out, err, bytes, words, times, reals, dists, r, clean);
-    }
-    step(out, err, bytes, words, times, reals, dists, read, b)
 }
 
 // Does what a line says.
 fn line(
     out: &impl Print,
-    err: &impl Print,
-    bytes: &mut [u8],
-    words: &mut [u32],
-    times: &mut [i64],
-    reals: &mut [f64],
-    dists: &mut [f32],
-    read: Script,
+    pools: &mut Pools<'_>,
+    script: &mut Script,
     text: &[u8],
-) -> io::Result<Script> {
-    let mut r = read;
-    let mut i = 0;
-    while i < text.len() {
-        r = step(out, err, bytes, words, times, reals, dists, r, text[i])?;
-        i += 1;
+) -> Result<(), Fault> {
+    for b in text {
+        step(out, pools, script, *b)?;
     }
-    step(out, err, bytes, words, times, reals, dists, r, b' ')
+    end_word(out, pools, script)
 }
 
 // Reads a byte of a line; a space ends a word.
-fn step(
-    out: &impl Print,
-    err: &impl Print,
-    bytes: &mut [u8],
-    words: &mut [u32],
-    times: &mut [i64],
-    reals: &mut [f64],
-    dists: &mut [f32],
-    read: Script,
-    b: u8,
-) -> io::Result<Script> {
-    if read.wrong {
-        return Ok(read);
-    }
+fn step(out: &impl Print, pools: &mut Pools<'_>, script: &mut Script, b: u8) -> Result<(), Fault> {
     if b == b' ' {
-        return Ok(act(out, err, bytes, words, times, reals, dists, read)?.next_word());
+        end_word(out, pools, script)
+    } else {
+        script.spell(b)
     }
-    read.spelled(err, b)
 }
 
 // Does what a word says.
-fn act(
-    out: &impl Print,
-    err: &impl Print,
-    bytes: &mut [u8],
-    words: &mut [u32],
-    times: &mut [i64],
-    reals: &mut [f64],
-    dists: &mut [f32],
-    read: Script,
-) -> io::Result<Script> {
-    let letter = read.letter;
-    match letter {
-        0 => Ok(read),
-        b'b' | b'w' | b't' | b'r' | b'd' => Ok(read.placed()),
-        b'=' | b'-' | b'x' => fault_scripts::one(err, bytes, words, times, reals, dists, read),
-        b's' => Ok(read.stepped()),
-        b'n' => fault_scripts::more(err, words, read),
-        b'i' => fault_scripts::ids(err, bytes, read),
-        b'?' => ask::answer(out, err, bytes, words, times, reals, dists, read),
-        _ => read.fails(err, b"no such word"),
+fn end_word(out: &impl Print, pools: &mut Pools<'_>, script: &mut Script) -> Result<(), Fault> {
+    match script.letter {
+        0 => {}
+        b'b' | b'w' | b't' | b'r' | b'd' => script.set_place(),
+        b'=' | b'-' | b'x' => script.put_one(pools)?,
+        b's' => script.set_step(),
+        b'n' => script.put_more(pools)?,
+        b'i' => script.put_ids(pools)?,
+        b'?' => ask::answer(out, pools, script.number)?,
+        _ => return Err(Fault::NoWord),
     }
+    script.next_word();
+    Ok(())
 }

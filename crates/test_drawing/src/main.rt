@@ -14,6 +14,7 @@ mod script; // script.rt: a word of the text
 use crate::script::Script;
 use input_bytes::read_full;
 use std::io;
+use worlds::{Pools, put};
 
 // How much is read at a time, and how often.
 const CHUNK: usize = 16384;
@@ -21,103 +22,62 @@ const CHUNK: usize = 16384;
 const CHUNKS: u32 = 64;
 
 fn main(rt: HostRuntime) -> io::Result<()> {
-    let mut text_space = [0u8; CHUNK];
-    let mut byte_space = [0u8; 1024];
-    let mut word_space = [0u32; 2048];
-    let mut real_space = [0.0f64; 1024];
-    let text: &mut [u8] = &mut text_space;
-    let bytes: &mut [u8] = &mut byte_space;
-    let words: &mut [u32] = &mut word_space;
-    let reals: &mut [f64] = &mut real_space;
+    let mut text = [0u8; CHUNK];
+    let mut bytes = [0u8; 1024];
+    let mut words = [0u32; 2048];
+    let mut times = [0i64; 1];
+    let mut reals = [0.0f64; 1024];
+    let mut dists = [0.0f32; 64];
+    let mut pools = Pools {
+        bytes: &mut bytes,
+        words: &mut words,
+        times: &mut times,
+        reals: &mut reals,
+        dists: &mut dists,
+    };
     let mut script = Script::new();
-    let mut k = 0;
-    while k < CHUNKS {
-        let n = read_full(&mut rt.stdin(), text)?;
-        script = replay(&rt, bytes, words, reals, script, &text[..n])?;
-        k += 1;
+    for _ in 0..CHUNKS {
+        let n = read_full(&mut rt.stdin(), &mut text)?;
+        for b in &text[..n] {
+            step(&rt, &mut pools, &mut script, *b)?;
+        }
     }
     Ok(())
 }
 
-fn replay(
-    out: &impl Print,
-    bytes: &mut [u8],
-    words: &mut [u32],
-    reals: &mut [f64],
-    script: Script,
-    text: &[u8],
-) -> io::Result<Script> {
-    let mut s = script;
-    let mut i = 0;
-    while i < text.len() {
-        s = step(out, bytes, words, reals, s, text[i])?;
-        i += 1;
-    }
-    Ok(s)
-}
-
 // Reads a byte; a space or a newline ends a word.
-fn step(
-    out: &impl Print,
-    bytes: &mut [u8],
-    words: &mut [u32],
-    reals: &mut [f64],
-    s: Script,
-    b: u8,
-) -> io::Result<Script> {
-    if b == b' ' {
-        return act(out, bytes, words, reals, s);
+fn step(out: &impl Print, pools: &mut Pools<'_>, script: &mut Script, b: u8) -> io::Result<()> {
+    match b {
+        b' ' | b'\n' => {
+            act(out, pools, script)?;
+            script.next_word();
+        }
+        _ => script.spell(b),
     }
-    if b == b'\n' {
-        return act(out, bytes, words, reals, s);
-    }
-    Ok(s.spelled(b))
+    Ok(())
 }
 
 // Does what a word says. A place that a pool does not have takes nothing.
-fn act(
-    out: &impl Print,
-    bytes: &mut [u8],
-    words: &mut [u32],
-    reals: &mut [f64],
-    s: Script,
-) -> io::Result<Script> {
-    let letter = s.letter;
-    match letter {
+fn act(out: &impl Print, pools: &mut Pools<'_>, script: &mut Script) -> io::Result<()> {
+    let number = script.number;
+    match script.letter {
         b'b' => {
-            put_byte(bytes, s.bytes, (s.number % 256) as u8);
-            Ok(s.after(1, 0, 0))
+            put(pools.bytes, script.bytes, (number % 256) as u8);
+            script.bytes = script.bytes.wrapping_add(1);
         }
         b'w' => {
-            put_word(words, s.words, (s.number % 4294967296) as u32);
-            Ok(s.after(0, 1, 0))
+            put(pools.words, script.words, (number % 4294967296) as u32);
+            script.words = script.words.wrapping_add(1);
         }
         b'r' => {
-            put_real(reals, s.reals, float_bits::f64_of(s.number));
-            Ok(s.after(0, 0, 1))
+            put(pools.reals, script.reals, float_bits::f64_of(number));
+            script.reals = script.reals.wrapping_add(1);
         }
         b'?' => {
-            ask::answer(out, bytes, words, reals, s.number)?;
-            Ok(Script::new())
+            ask::answer(out, pools, number)?;
+            *script = Script::new();
         }
-        _ => Ok(s.after(0, 0, 0)),
+        _ => {}
     }
-}
-
-fn put_byte(bytes: &mut [u8], i: usize, b: u8) {
-    if i < bytes.len() {
-        bytes[i] = b;
-    }
-}
-
-fn put_word(words: &mut [u32], i: usize, n: u32) {
-    if i < words.len() {
-        words[i] = n;
-    }
-}
-
-fn put_real(reals: &mut [f64], i: usize, x: f64) {
-    if i < reals.len() {
-        reals[i] = x;
-    }
+    Ok(())
 }

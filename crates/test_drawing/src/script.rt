@@ -20,35 +20,22 @@ impl Script {
     }
 
     // One byte more: the letter, or a digit of the number.
-    pub(crate) fn spelled(mut self, b: u8) -> Self {
-        if self.letter == 0 {
-            self.letter = b;
-            return self;
+    pub(crate) fn spell(&mut self, b: u8) {
+        let before = self.number % 0x1000_0000_0000_0000;
+        match self.letter {
+            0 => self.letter = b,
+            b'r' => self.number = before * 16 + (hex(b) % 16) as u64,
+            _ => self.number = before * 10 + (b % 16) as u64,
         }
-        if self.letter == b'r' {
-            self.number = self.number % 1152921504606846976 * 16 + (hex(b) % 16) as u64;
-            return self;
-        }
-        self.number = self.number % 1152921504606846976 * 10 + (b % 16) as u64;
-        self
     }
 
-    // After a word that filled so much more of each pool.
-    pub(crate) fn after(self, bytes: usize, words: usize, reals: usize) -> Self {
-        Script {
-            letter: 0,
-            number: 0,
-            bytes: std::num::wrapping_add_usize(self.bytes, bytes),
-            words: std::num::wrapping_add_usize(self.words, words),
-            reals: std::num::wrapping_add_usize(self.reals, reals),
-        }
+    pub(crate) fn next_word(&mut self) {
+        self.letter = 0;
+        self.number = 0;
     }
 }
 
 // A digit's value.
 fn hex(b: u8) -> u8 {
-    if b < 64 {
-        return b % 16;
-    }
-    b % 16 + 9
+    if b < 64 { b % 16 } else { b % 16 + 9 }
 }

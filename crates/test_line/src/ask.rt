@@ -3,87 +3,72 @@ use crate::read::{double, index, point, single};
 use crate::tell;
 use calibration::Sample;
 use std::io;
-use texts::begins;
 
+// A question's name, and the numbers after it.
 pub(crate) fn answer(out: &impl Print, lat: &[f64], lon: &[f64], words: &[u8]) -> io::Result<()> {
-    if begins(words, b"length ") {
-        tell::double(out, running_lengths::length_to(lat, lon, index(words, 7)))
-    } else if begins(words, b"first ") {
-        tell::number(
+    let Some(end) = words.iter().position(|b| *b == b' ') else {
+        return println!(out; "no such question");
+    };
+    let w = &words[end + 1..];
+    match &words[..end] {
+        b"length" => tell::double(out, running_lengths::length_to(lat, lon, index(w, 0))),
+        b"first" => {
+            let k = near_vertex::forward_shape_index(lat, lon, index(w, 0), point(w, 9));
+            println!(out; "{k}")
+        }
+        b"last" => {
+            let k = near_vertex::forward_last_index(lat, lon, index(w, 0), point(w, 9));
+            println!(out; "{k}")
+        }
+        b"nearest" => {
+            let k = nearest::nearest_idx(lat, lon, point(w, 0));
+            println!(out; "{k}")
+        }
+        b"scale" => tell::double(out, unit_scales::snap_unit_scale(double(w, 0))),
+        b"affine" => tell::calibrated(
             out,
-            near_vertex::forward_shape_index(lat, lon, index(words, 6), point(words, 15)),
-        )
-    } else if begins(words, b"last ") {
-        tell::number(
-            out,
-            near_vertex::forward_last_index(lat, lon, index(words, 5), point(words, 14)),
-        )
-    } else if begins(words, b"nearest ") {
-        tell::number(out, nearest::nearest_idx(lat, lon, point(words, 8)))
-    } else if begins(words, b"scale ") {
-        tell::double(out, unit_scales::snap_unit_scale(double(words, 6)))
-    } else if begins(words, b"affine ") {
-        tell::calibrated(
-            out,
-            calibration::shape_dist_affine(lat, lon, sample(words, 7), sample(words, 58)),
-        )
-    } else {
-        place(out, lat, lon, words)
+            calibration::shape_dist_affine(lat, lon, sample(w, 0), sample(w, 51)),
+        ),
+        name => place(out, lat, lon, name, w),
     }
 }
 
 // A point, and a distance.
 fn sample(words: &[u8], at: usize) -> Sample {
-    let stop = point(words, at);
     Sample {
-        at: stop,
-        dist: double(words, std::num::wrapping_add_usize(at, 34)),
+        at: point(words, at),
+        dist: double(words, at.wrapping_add(34)),
     }
 }
 
 // Places along the line.
-fn place(out: &impl Print, lat: &[f64], lon: &[f64], words: &[u8]) -> io::Result<()> {
-    if begins(words, b"dist ") {
-        tell::place(
-            out,
-            by_distance::interpolate_shape_by_dist(
-                lat,
-                lon,
-                single(words, 5),
-                single(words, 14),
-                double(words, 23),
-            ),
-        )
-    } else if begins(words, b"feed ") {
-        tell::place(
-            out,
-            by_distance::interpolate_shape_by_feed_dist(
-                lat,
-                lon,
-                single(words, 5),
-                single(words, 14),
-                double(words, 23),
-                double(words, 40),
-                double(words, 57),
-            ),
-        )
-    } else if begins(words, b"along ") {
-        tell::place(
-            out,
-            routes::interpolate_along_vertices(lat, lon, double(words, 6)),
-        )
-    } else if begins(words, b"polyline ") {
-        tell::place(
-            out,
-            polylines::interpolate_polyline(
-                lat,
-                lon,
-                point(words, 9),
-                point(words, 43),
-                double(words, 77),
-            ),
-        )
-    } else {
-        tell::text(out, b"no such question\n")
-    }
+fn place(out: &impl Print, lat: &[f64], lon: &[f64], name: &[u8], w: &[u8]) -> io::Result<()> {
+    let drawn = match name {
+        b"dist" => by_distance::interpolate_shape_by_dist(
+            lat,
+            lon,
+            single(w, 0),
+            single(w, 9),
+            double(w, 18),
+        ),
+        b"feed" => by_distance::interpolate_shape_by_feed_dist(
+            lat,
+            lon,
+            single(w, 0),
+            single(w, 9),
+            double(w, 18),
+            double(w, 35),
+            double(w, 52),
+        ),
+        b"along" => routes::interpolate_along_vertices(lat, lon, double(w, 0)),
+        b"polyline" => polylines::interpolate_polyline(
+            lat,
+            lon,
+            point(w, 0),
+            point(w, 34),
+            double(w, 68),
+        ),
+        _ => return println!(out; "no such question"),
+    };
+    tell::place(out, drawn)
 }

@@ -25,94 +25,78 @@ use input_bytes::read_full;
 use projection::Cursor;
 use std::io;
 
-// How many vertices a line has so far, and where its trip has got to.
+// The most vertices of a line.
+const ROOM: usize = 64;
+
+// A line so far, and where its trip has got to.
 #[derive(Clone, Copy)]
 struct Asked {
+    lat: [f64; ROOM],
+    lon: [f64; ROOM],
     n: usize,
     cursor: Cursor,
 }
 
-fn main(rt: HostRuntime) -> io::Result<()> {
-    let mut text = [0u8; 131072];
-    let mut lat = [0.0f64; 64];
-    let mut lon = [0.0f64; 64];
-    let n = read_full(&mut rt.stdin(), &mut text)?;
-    replay(&rt, &mut lat, &mut lon, &text[..n])
+impl Asked {
+    fn new() -> Self {
+        Asked {
+            lat: [0.0; ROOM],
+            lon: [0.0; ROOM],
+            n: 0,
+            cursor: Cursor::new(),
+        }
+    }
+
+    // One vertex more, for which a full line has no place, and a new trip.
+    fn add_vertex(&mut self, lat: f64, lon: f64) {
+        if self.n < ROOM {
+            self.lat[self.n] = lat;
+            self.lon[self.n] = lon;
+        }
+        self.n = self.n.wrapping_add(1);
+        self.cursor = Cursor::new();
+    }
+
+    fn lat(&self) -> &[f64] {
+        &self.lat[..self.n.min(ROOM)]
+    }
+
+    fn lon(&self) -> &[f64] {
+        &self.lon[..self.n.min(ROOM)]
+    }
 }
 
-fn replay(out: &impl Print, lat: &mut [f64], lon: &mut [f64], text: &[u8]) -> io::Result<()> {
-    let mut asked = new_line();
-    let mut at = 0;
-    while at < text.len() {
-        let end = questions::line_end(text, at);
-        asked = step(out, lat, lon, asked, &text[at..end])?;
-        at = end + 1;
+fn main(rt: HostRuntime) -> io::Result<()> {
+    let mut text = [0u8; 131072];
+    let n = read_full(&mut rt.stdin(), &mut text)?;
+    replay(&rt, &text[..n])
+}
+
+fn replay(out: &impl Print, text: &[u8]) -> io::Result<()> {
+    let mut asked = Asked::new();
+    for line in text.split_inclusive(|b| *b == b'\n') {
+        step(out, &mut asked, line.strip_suffix(b"\n").unwrap_or(line))?;
     }
     Ok(())
 }
 
-fn new_line() -> Asked {
-    new_trip(0)
-}
-
-fn new_trip(n: usize) -> Asked {
-    let cursor = Cursor::new();
-    Asked { n, cursor }
-}
-
 // Reads a line of the text.
-fn step(
-    out: &impl Print,
-    lat: &mut [f64],
-    lon: &mut [f64],
-    asked: Asked,
-    words: &[u8],
-) -> io::Result<Asked> {
-    let n = asked.n;
-    if texts::begins(words, b"line") {
-        return Ok(new_line());
+fn step(out: &impl Print, asked: &mut Asked, words: &[u8]) -> io::Result<()> {
+    if words.starts_with(b"line") {
+        asked.n = 0;
+        asked.cursor = Cursor::new();
+    } else if words.starts_with(b"vertex ") {
+        asked.add_vertex(read::double(words, 7), read::double(words, 24));
+    } else if words.starts_with(b"trip") {
+        asked.cursor = Cursor::new();
+    } else if words.starts_with(b"stop") {
+        // the trip's next stop
+        let stop = read::position(words, 5);
+        let passed = asked.cursor.pass(asked.lat(), asked.lon(), stop);
+        asked.cursor = passed.cursor;
+        tell::found(out, passed.vertex)?;
+    } else {
+        ask::answer(out, asked.lat(), asked.lon(), words)?;
     }
-    if texts::begins(words, b"vertex ") {
-        put(lat, n, read::double(words, 7));
-        put(lon, n, read::double(words, 24));
-        return Ok(new_trip(std::num::wrapping_add_usize(n, 1)));
-    }
-    if texts::begins(words, b"trip") {
-        return Ok(new_trip(n));
-    }
-    if texts::begins(words, b"stop") {
-        return stopped(out, first(lat, n), first(lon, n), asked, words);
-    }
-    ask::answer(out, first(lat, n), first(lon, n), words)?;
-    Ok(asked)
-}
-
-// Takes the trip's next stop.
-fn stopped(
-    out: &impl Print,
-    lat: &[f64],
-    lon: &[f64],
-    asked: Asked,
-    words: &[u8],
-) -> io::Result<Asked> {
-    let passed = asked.cursor.pass(lat, lon, read::position(words, 5));
-    let vertex = passed.vertex;
-    tell::found(out, vertex)?;
-    let cursor = passed.cursor;
-    Ok(Asked { n: asked.n, cursor })
-}
-
-// A place that a column does not have takes nothing.
-fn put(column: &mut [f64], k: usize, x: f64) {
-    if k < column.len() {
-        column[k] = x;
-    }
-}
-
-// The first n of a column, or as many as there are.
-fn first<'a>(column: &'a [f64], n: usize) -> &'a [f64] {
-    if column.len() < n {
-        return column;
-    }
-    &column[0..n]
+    Ok(())
 }

@@ -1,6 +1,5 @@
 // The numbers of a line of text, each by where it begins.
 use lengths::Point;
-use projection::Position;
 
 pub(crate) fn double(words: &[u8], at: usize) -> f64 {
     float_bits::f64_of(questions::number(words, at, 16))
@@ -18,14 +17,14 @@ pub(crate) fn index(words: &[u8], at: usize) -> usize {
 pub(crate) fn point(words: &[u8], at: usize) -> Point {
     Point {
         lat: double(words, at),
-        lon: double(words, std::num::wrapping_add_usize(at, 17)),
+        lon: double(words, at.wrapping_add(17)),
     }
 }
 
 // Two numbers, or the end of the line.
-pub(crate) fn position(words: &[u8], at: usize) -> Position {
+pub(crate) fn position(words: &[u8], at: usize) -> Option<Point> {
     if words.len() < at {
-        return Position::Missing;
+        return None;
     }
-    Position::Known(point(words, at))
+    Some(point(words, at))
 }

@@ -13,6 +13,7 @@ mod rows; // rows.rt: a line's fields, and where each goes
 use crate::rows::Row;
 use input_bytes::read_full;
 use std::io;
+use worlds::Pools;
 
 // How much is read at a time, and how often.
 const CHUNK: usize = 16384;
@@ -20,109 +21,68 @@ const CHUNK: usize = 16384;
 const CHUNKS: u32 = 64;
 
 fn main(rt: HostRuntime) -> io::Result<()> {
-    let mut text_space = [0u8; CHUNK];
-    let mut byte_space = [0u8; 16384];
-    let mut word_space = [0u32; 8192];
-    let mut time_space = [0i64; 8192];
-    let real_space = [0.0f64; 1];
-    let dist_space = [0.0f32; 8192];
-    let text: &mut [u8] = &mut text_space;
-    let bytes: &mut [u8] = &mut byte_space;
-    let words: &mut [u32] = &mut word_space;
-    let times: &mut [i64] = &mut time_space;
+    let mut text = [0u8; CHUNK];
+    let mut bytes = [0u8; 16384];
+    let mut words = [0u32; 8192];
+    let mut times = [0i64; 8192];
+    let mut reals = [0.0f64; 1];
+    let mut dists = [0.0f32; 8192];
+    let mut pools = Pools {
+        bytes: &mut bytes,
+        words: &mut words,
+        times: &mut times,
+        reals: &mut reals,
+        dists: &mut dists,
+    };
     let mut row = Row::new(put::IDS);
-    let mut k = 0;
-    while k < CHUNKS {
-        let n = read_full(&mut rt.stdin(), text)?;
-        row = replay(
-            &rt,
-            bytes,
-            words,
-            times,
-            &real_space,
-            &dist_space,
-            row,
-            &text[..n],
-        )?;
-        k += 1;
+    for _ in 0..CHUNKS {
+        let n = read_full(&mut rt.stdin(), &mut text)?;
+        for b in &text[..n] {
+            step(&rt, &mut pools, &mut row, *b)?;
+        }
     }
     Ok(())
 }
 
-fn replay(
-    out: &impl Print,
-    bytes: &mut [u8],
-    words: &mut [u32],
-    times: &mut [i64],
-    reals: &[f64],
-    dists: &[f32],
-    row: Row,
-    text: &[u8],
-) -> io::Result<Row> {
-    let mut r = row;
-    let mut i = 0;
-    while i < text.len() {
-        r = step(out, bytes, words, times, reals, dists, r, text[i])?;
-        i += 1;
-    }
-    Ok(r)
-}
-
 // Reads a byte.
-fn step(
-    out: &impl Print,
-    bytes: &mut [u8],
-    words: &mut [u32],
-    times: &mut [i64],
-    reals: &[f64],
-    dists: &[f32],
-    row: Row,
-    b: u8,
-) -> io::Result<Row> {
+fn step(out: &impl Print, pools: &mut Pools<'_>, row: &mut Row, b: u8) -> io::Result<()> {
     if b == b'\n' {
-        return line_end(out, bytes, words, times, reals, dists, row);
+        return line_end(out, pools, row);
     }
     if row.letter == 0 {
         let first = rows::first_column(b);
-        return Ok(row.of_table(b, first, put::count(words, first)));
+        row.begin(b, first, put::count(pools.words, first));
+    } else if b == b'\t' {
+        field_end(pools, row);
+    } else if row.is_id() {
+        put::byte(pools.bytes, row.end, b);
+        row.lengthen();
+    } else {
+        row.add_digit(b);
     }
-    if b == b'\t' {
-        return Ok(field_end(bytes, words, times, row));
-    }
-    if row.is_id() {
-        put::byte(bytes, row.end, b);
-        return Ok(row.longer());
-    }
-    Ok(row.digit(b))
+    Ok(())
 }
 
 // Puts the field that was read, and goes on to the next.
-fn field_end(bytes: &mut [u8], words: &mut [u32], times: &mut [i64], row: Row) -> Row {
-    if !row.inside {
-        return row.next_field();
+fn field_end(pools: &mut Pools<'_>, row: &mut Row) {
+    if row.inside {
+        put::field(pools, *row);
     }
-    put::field(bytes, words, times, row);
-    row.next_field()
+    row.next_field();
 }
 
 // After a row: counts it, and answers it where it is a question. After an empty line: forgets all rows.
-fn line_end(
-    out: &impl Print,
-    bytes: &mut [u8],
-    words: &mut [u32],
-    times: &mut [i64],
-    reals: &[f64],
-    dists: &[f32],
-    row: Row,
-) -> io::Result<Row> {
+fn line_end(out: &impl Print, pools: &mut Pools<'_>, row: &mut Row) -> io::Result<()> {
     if row.letter == 0 {
-        put::counts(words, 0, put::COLUMNS, 0);
-        return Ok(Row::new(put::IDS));
+        put::counts(pools.words, 0, put::COLUMNS, 0);
+        *row = Row::new(put::IDS);
+        return Ok(());
     }
-    let whole = field_end(bytes, words, times, row);
-    let rows = std::num::wrapping_add_u32(whole.row, 1);
-    put::counts(words, whole.first, whole.column, rows);
-    let left = ask::answered(out, bytes, words, times, reals, dists, row.letter, rows)?;
-    put::counts(words, whole.first, whole.column, left);
-    Ok(Row::new(whole.end))
+    field_end(pools, row);
+    let rows = row.row.wrapping_add(1);
+    put::counts(pools.words, row.first, row.column, rows);
+    let left = ask::answered(out, pools, row.letter, rows)?;
+    put::counts(pools.words, row.first, row.column, left);
+    *row = Row::new(row.end);
+    Ok(())
 }

@@ -17,14 +17,14 @@ pub struct Row {
 }
 
 // What a column holds.
-#[derive(Clone, Copy)]
+#[derive(Clone, Copy, PartialEq, Eq)]
 pub enum Held {
     Ids,
     Words,
     Flags,
     Times,
-    // distances, which all lack
-    Nothing,
+    // which all are missing
+    Distances,
 }
 
 impl Row {
@@ -42,38 +42,33 @@ impl Row {
         }
     }
 
-    pub(crate) fn of_table(mut self, letter: u8, first: u32, row: u32) -> Self {
+    // A row of a table, whose letter was read.
+    pub(crate) fn begin(&mut self, letter: u8, first: u32, row: u32) {
         self.letter = letter;
         self.first = first;
         self.row = row;
         self.column = first;
-        self
     }
 
-    pub(crate) fn is_id(self) -> bool {
-        match held_in(self.column) {
-            Held::Ids => true,
-            _ => false,
-        }
+    pub(crate) fn is_id(&self) -> bool {
+        held_in(self.column) == Held::Ids
     }
 
     // One byte more of an id.
-    pub(crate) fn longer(mut self) -> Self {
-        self.end = std::num::wrapping_add_u32(self.end, 1);
-        self
+    pub(crate) fn lengthen(&mut self) {
+        self.end = self.end.wrapping_add(1);
     }
 
     // One byte more of a number.
-    pub(crate) fn digit(mut self, b: u8) -> Self {
+    pub(crate) fn add_digit(&mut self, b: u8) {
         if b == b'-' {
             self.minus = true;
-            return self;
+        } else {
+            self.number = self.number % 429496729 * 10 + (b % 16) as u32;
         }
-        self.number = self.number % 429496729 * 10 + (b % 16) as u32;
-        self
     }
 
-    pub(crate) fn next_field(mut self) -> Self {
+    pub(crate) fn next_field(&mut self) {
         if self.inside {
             self.column = next_column(self.column);
         }
@@ -81,7 +76,6 @@ impl Row {
         self.number = 0;
         self.minus = false;
         self.start = self.end;
-        self
     }
 }
 
@@ -106,15 +100,13 @@ pub(crate) fn held_in(column: u32) -> Held {
         10 | 12 | 19 | 34 | 36 | 38 | 41 | 43 | 45 | 50 | 52 | 78 | 80 | 86 | 88 => Held::Ids,
         15 | 16 | 27 | 49 | 55 | 82 | 84 => Held::Flags,
         83 | 85 => Held::Times,
-        26 => Held::Nothing,
+        26 => Held::Distances,
         _ => Held::Words,
     }
 }
 
 // A column of ids has two places.
 fn next_column(column: u32) -> u32 {
-    match held_in(column) {
-        Held::Ids => std::num::wrapping_add_u32(column, 2),
-        _ => std::num::wrapping_add_u32(column, 1),
-    }
+    let places = if held_in(column) == Held::Ids { 2 } else { 1 };
+    column.wrapping_add(places)
 }

@@ -1,6 +1,5 @@
 -- Where a text stands in another: a text is the list of its bytes.
-use Rattle.std.specs.Prelude.{ℕ, ◌+◌, Bool, true, false, ◌&&◌, List, [], ◌∷◌, eqb, length, drop}
-use Rattle.ids.specs.declared.lookup.Found.{Found}
+use Rattle.std.specs.Prelude.{ℕ, ◌+◌, Bool, true, false, ◌&&◌, List, [], ◌∷◌, eqb, length, drop, Option}
 use Rattle.ids.specs.First.{first}
 
 -- s begins with n
@@ -14,5 +13,5 @@ abbrev pub stands_at : List ℕ → List ℕ → ℕ → Bool
 stands_at n s k = prefix_of n (drop k s)
 
 -- the first place of s where n stands, the place after the last byte included
-unfoldable pub first_place : List ℕ → List ℕ → Found
+unfoldable pub first_place : List ℕ → List ℕ → Option ℕ
 first_place n s = first (stands_at n s) (length s + 1)

@@ -1,47 +1,30 @@
 // Texts compared byte for byte or, with `fold`, as if they were in upper case.
 ghost use Rattle.std.specs.Prelude.{◌≡◌, map};
 ghost use Rattle.ids.specs.Bytes.{fold_of};
-ghost use Rattle.ids.specs.Cmp.{equal};
 ghost use Rattle.text_folds.specs.Folds.{prefix_of, first_place};
 
-use ids::{Found, letter};
-
 // s begins with the needle.
+#[tactic(auto, using(crate::proofs::Folds::prefix_upper, crate::proofs::Folds::equal_if, crate::proofs::Folds::equal_only_if, crate::proofs::Folds::prefix_long))]
 pub fn starts(fold: bool, s: &[u8], needle: &[u8]) -> bool
     ensures { result ≡ prefix_of (map (fold_of fold) needle.now) (map (fold_of fold) s.now) }
 {
-    let mut i = 0;
-    while i < needle.len() {
-        if s.len() <= i {
-            return false;
-        }
-        if letter(fold, needle[i]) != letter(fold, s[i]) {
-            return false;
-        }
-        i += 1;
+    if !fold {
+        return s.starts_with(needle);
     }
-    true
-}
-
-pub fn alike(fold: bool, a: &[u8], b: &[u8]) -> bool
-    ensures { result ≡ equal (map (fold_of fold) a.now) (map (fold_of fold) b.now) }
-{
-    if a.len() != b.len() {
+    if s.len() < needle.len() {
         return false;
     }
-    starts(fold, b, a)
+    needle.eq_ignore_ascii_case(&s[..needle.len()])
 }
 
 // The first place of s where the needle stands.
-pub fn place(fold: bool, s: &[u8], needle: &[u8]) -> Found
+pub fn place(fold: bool, s: &[u8], needle: &[u8]) -> Option<usize>
     ensures { result ≡ first_place (map (fold_of fold) needle.now) (map (fold_of fold) s.now) }
 {
-    let mut at = 0;
-    while at <= s.len() {
+    for at in 0..=s.len() {
         if starts(fold, &s[at..], needle) {
-            return Found::At(at);
+            return Some(at);
         }
-        at += 1;
     }
-    Found::Nothing
+    None
 }

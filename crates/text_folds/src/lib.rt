@@ -1,4 +1,4 @@
-// Texts compared in two ways, byte for byte or as if they were in upper case: whether one begins with another, whether two are equal, where
+// Texts compared in two ways, byte for byte or as if they were in upper case: whether one begins with another, and where
 // one first stands in another. No function requires anything of its caller.
 //
 // Laws that a caller cites are in proofs/: Folds (what is found in a text lies in it).
@@ -6,4 +6,4 @@
 
 mod fold; // each with `fold`, which says in which of the two ways
 
-pub use fold::{alike, place, starts};
+pub use fold::{place, starts};

@@ -1,2 +1,2 @@
--- `Runs`: what a loop over a text sees next, and where a run ends.
+-- `Runs`: what is found in a text lies in it.
 pub mod Runs

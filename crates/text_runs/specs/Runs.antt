@@ -1,7 +1,5 @@
 -- Where a byte stands in a text, and how far a run of bytes goes: a text is the list of its bytes.
-use Rattle.std.specs.Prelude.{ℕ, ◌+◌, Bool, not, List, eqb, length, get_or}
-use Rattle.ids.specs.declared.lookup.Found.{Found}
-use Rattle.ids.specs.declared.lookup.Found.TheVariants.{At, Nothing}
+use Rattle.std.specs.Prelude.{ℕ, ◌+◌, Bool, not, List, eqb, length, get_or, Option, Some, None}
 use Rattle.ids.specs.declared.byte.Kind.TheVariants.{Byte}
 use Rattle.ids.specs.First.{first, last, or_at}
 use Rattle.ids.specs.Bytes.{is_digit, is_alnum, is_of}
@@ -11,11 +9,11 @@ abbrev pub byte_is : List ℕ → ℕ → ℕ → Bool
 byte_is s b k = eqb (get_or s k 0) b
 
 -- the first k at which s has the byte b
-unfoldable pub first_byte : List ℕ → ℕ → Found
+unfoldable pub first_byte : List ℕ → ℕ → Option ℕ
 first_byte s b = first (byte_is s b) (length s)
 
 -- the last k at which s has the byte b
-unfoldable pub last_byte : List ℕ → ℕ → Found
+unfoldable pub last_byte : List ℕ → ℕ → Option ℕ
 last_byte s b = last (byte_is s b) (length s)
 
 -- byte k of s fails the test
@@ -23,9 +21,9 @@ abbrev pub fails_at : (ℕ → Bool) → List ℕ → ℕ → Bool
 fails_at p s k = not (p (get_or s k 0))
 
 -- the place after the one found, or 0 where there is none
-abbrev pub after : Found → ℕ
-after (At k) = k + 1
-after Nothing = 0
+abbrev pub after : Option ℕ → ℕ
+after (Some k) = k + 1
+after None = 0
 
 -- how many bytes at the beginning pass the test: those before the first that fails, or all
 unfoldable pub run_of : (ℕ → Bool) → List ℕ → ℕ

@@ -4,60 +4,56 @@ ghost use Rattle.std.specs.Prelude.{◌≡◌};
 ghost use Rattle.ids.specs.Bytes.{is_of};
 ghost use Rattle.text_runs.specs.Runs.{first_byte, last_byte, run_of, kept_of, digits_at, digit_run, alnum_run, trimmed_of};
 
-use ids::{Found, Kind, of_kind};
+use ids::{Kind, of_kind};
 
 // Where the byte first stands.
-pub fn first_of(s: &[u8], byte: u8) -> Found
+#[tactic(auto, using(ids::proofs::Search::first_miss), unfolding(crate::specs::Runs::first_byte))]
+pub fn first_of(s: &[u8], byte: u8) -> Option<usize>
     ensures { result ≡ first_byte s.now byte }
 {
-    let mut k = 0;
-    while k < s.len() {
-        if s[k] == byte {
-            return Found::At(k);
+    for (k, b) in s.iter().enumerate() {
+        if *b == byte {
+            return Some(k);
         }
-        k += 1;
     }
-    Found::Nothing
+    None
 }
 
 // Where the byte last stands.
-pub fn last_of(s: &[u8], byte: u8) -> Found
+#[tactic(auto, using(ids::proofs::Search::last_hit, ids::proofs::Search::last_skip, ids::proofs::Search::last_miss), unfolding(crate::specs::Runs::last_byte))]
+pub fn last_of(s: &[u8], byte: u8) -> Option<usize>
     ensures { result ≡ last_byte s.now byte }
 {
-    let mut k = s.len();
-    while 0 < k {
-        if s[k - 1] == byte {
-            return Found::At(k - 1);
+    for k in (0..s.len()).rev() {
+        if s[k] == byte {
+            return Some(k);
         }
-        k -= 1;
     }
-    Found::Nothing
+    None
 }
 
-// How many bytes at the beginning are of the kind.
+// How many bytes at the beginning are of the kind. A `for`: what `take_while(..).count()` gives was not proved.
+#[tactic(auto, using(ids::proofs::Search::first_miss), unfolding(crate::specs::Runs::run_of))]
 pub fn run(s: &[u8], kind: Kind) -> usize
     ensures { result ≡ run_of (is_of kind) s.now }
 {
-    let mut k = 0;
-    while k < s.len() {
-        if !of_kind(kind, s[k]) {
+    for (k, b) in s.iter().enumerate() {
+        if !of_kind(kind, *b) {
             return k;
         }
-        k += 1;
     }
     s.len()
 }
 
-// The length of s without the bytes of the kind at its end.
+// The length of s without the bytes of the kind at its end. A `for`, as `run`.
+#[tactic(auto, using(ids::proofs::Search::last_hit, ids::proofs::Search::last_skip, ids::proofs::Search::last_miss), unfolding(crate::specs::Runs::kept_of))]
 pub fn kept(s: &[u8], kind: Kind) -> usize
     ensures { result ≡ kept_of (is_of kind) s.now }
 {
-    let mut k = s.len();
-    while 0 < k {
-        if !of_kind(kind, s[k - 1]) {
-            return k;
+    for k in (0..s.len()).rev() {
+        if !of_kind(kind, s[k]) {
+            return k + 1;
         }
-        k -= 1;
     }
     0
 }

@@ -1,4 +1,2 @@
--- `Texts`: how a text ends. `Trims`: a text taken away at the end of another, time after
--- time.
-pub mod Texts
+-- `Trims`: how a text ends, and a text taken away at the end of another, time after time.
 pub mod Trims

@@ -1,16 +1,47 @@
--- A text that is taken away at the end of another, time after time. Assumes nothing.
+-- How a text ends, and a text that is taken away at the end of another, time after time. Assumes nothing.
 use Prim.Native.Nat.{ℕ, zero, suc, ◌<◌, ◌≤◌, ◌-◌}
 use native.Mathlib.Omega.{arith}
 use mathlib.Core.Path.{◌≡◌, refl, sym, ap, ◌∙◌}
 use mathlib.Core.Bool.{Bool, true, false, cond}
 use mathlib.Core.List.{List, [], ◌∷◌}
-use lib.ListN.{length, take, drop}
-use lib.Seq.{length-take-le, take-length, take-take}
-use lib.Dec.{leb}
-use borrow.Author.Tests.{le-leb, lt-leb, leb-true}
-use Rattle.ids.proofs.ByteOrder.{both}
+use mathlib.Core.Logic.{⊎_elim}
+use lib.ListN.{length, take, drop, length-drop}
+use lib.Seq.{length-take-le, take_all}
+use lib.Dec.{leb, eqb}
+use borrow.Author.Tests.{le-leb, lt-leb, leb-true, leb-false}
+use Rattle.std.specs.Cmp.Lexicographic.{pointwise}
+use Rattle.std.specs.List.{ends_with}
+use Rattle.std.proofs.lemmas.Cmp.{nat_list_eq_equiv}
+use Rattle.ids.specs.Cmp.{equal}
+use Rattle.ids.proofs.ByteOrder.{both, split, unequal}
 use Rattle.texts.specs.Texts.{suffix_of, trimmed_times, trimmed_text}
 use Rattle.text_folds.specs.Folds.{prefix_of}
+use Rattle.text_folds.proofs.Folds.{equal_pointwise, prefix_taken}
+
+-- The library's test, where the text is long enough and where it is not.
+fits_end : (n s : List ℕ) → length n ≤ length s → ends_with eqb s n ≡ suffix_of n s
+unfolding suffix_of
+fits_end n s l =
+    let last = drop (length s - length n) s in
+    equal_pointwise n last
+    ∙ ap (equal n) (sym (take_all (length n) last (omega (arith, length-drop (length s - length n) s))))
+    ∙ prefix_taken n last
+    ∙ sym (simp (le-leb (length n) (length s) l))
+
+long_end : (n s : List ℕ) → length s < length n → ends_with eqb s n ≡ suffix_of n s
+unfolding suffix_of
+long_end n s l =
+    let last = drop (length s - length n) s in
+    equal_pointwise n last
+    ∙ unequal n last (λ e. omega (arith, length-drop (length s - length n) s, ap length e))
+    ∙ sym (simp (lt-leb (length n) (length s) l))
+
+pub ends_suffix : (n s : List ℕ) → ends_with eqb s n ≡ suffix_of n s
+ends_suffix n s =
+    ⊎_elim (λ e. fits_end n s (leb-true (length n) (length s) e)) (λ e. long_end n s (leb-false (length n) (length s) e)) (split (leb (length n) (length s)))
+
+pub suffix_stripped : (n s : List ℕ) (r : Bool) → pointwise eqb (drop (length s - length n) s) n ≡ r → suffix_of n s ≡ r
+suffix_stripped n s r e = sym (ends_suffix n s) ∙ nat_list_eq_equiv.symm n (drop (length s - length n) s) ∙ e
 
 pub suffix_fits : (n s : List ℕ) → suffix_of n s ≡ true → length n ≤ length s
 unfolding suffix_of
@@ -29,43 +60,28 @@ pub empty_trims : (n s : List ℕ) → length n ≡ 0 → length s ≡ trimmed_t
 empty_trims [] s e = sym (empty_takes_none (length s) s)
 empty_trims (x ∷ n) s e = absurd (omega arith)
 
--- What is left does not end with n: it is the answer.
-stays : (n : List ℕ) (m : ℕ) (t : List ℕ) → suffix_of n t ≡ false → trimmed_times m n t ≡ length t
-unfolding trimmed_times
-stays n zero t e = refl
-stays n (suc m) t e = simp e
+-- A text may be taken away as often as the other has bytes, and no more often.
+module _ (n : List ℕ) (some : 0 < length n) where
+  nothing_left : (s : List ℕ) (m : ℕ) → length s ≡ 0 → trimmed_times m n s ≡ length s
+  unfolding trimmed_times suffix_of
+  nothing_left s zero e = refl
+  nothing_left s (suc m) e = let l : length s < length n = omega arith in simp (lt-leb (length n) (length s) l)
 
-module _ (n s : List ℕ) where
-  -- A loop that has k bytes left, and may take n away often enough to take them all.
-  pub record Left (k : ℕ) : Type 0 where
-    pub times : ℕ
-    pub enough : k ≤ times
-    pub same : trimmed_text n s ≡ trimmed_times times n (take k s)
+  often : (s : List ℕ) (j k : ℕ) → length s ≤ j → length s ≤ k → trimmed_times j n s ≡ trimmed_times k n s
+  unfolding trimmed_times
+  often s zero k a b = sym (nothing_left s k (omega arith))
+  often s (suc j) zero a b = nothing_left s (suc j) (omega arith)
+  often s (suc j) (suc k) a b =
+      let left = length-take-le (length s - length n) s (omega arith) in
+      ap (λ t. cond (suffix_of n s) t (length s)) (often (take (length s - length n) s) j k (omega arith) (omega arith))
 
-  pub all_left : Left (length s)
-  all_left = record { times = length s; enough = omega arith; same = ap (trimmed_times (length s) n) (sym (take-length s)) }
-
-  module _ (k : ℕ) (fits : k ≤ length s) where
-    pub less_left : 0 < length n → 0 < k → suffix_of n (take k s) ≡ true → Left k → Left (k - length n)
-    unfolding trimmed_times
-    less_left some l t h = go h.times h.enough h.same where
-      go : (m : ℕ) → k ≤ m → trimmed_text n s ≡ trimmed_times m n (take k s) → Left (k - length n)
-      go zero b e = absurd (omega arith)
-      go (suc m) b e = record {
-        times = m;
-        enough = omega arith;
-        same = e ∙ simp (t, length-take-le k s fits) (ap (trimmed_times m n) (take-take (k - length n) k s (omega arith)));
-      }
-
-    pub none_more : suffix_of n (take k s) ≡ false → Left k → k ≡ trimmed_text n s
-    none_more t h = sym (h.same ∙ stays n h.times (take k s) t ∙ length-take-le k s fits)
-
-    pub none_left : 0 < length n → k ≤ 0 → Left k → 0 ≡ trimmed_text n s
-    unfolding suffix_of
-    none_left some z h =
-        let e : k ≡ 0 = omega arith in
-        let l : length (take k s) < length n = omega (arith, length-take-le k s fits) in
-        sym e ∙ none_more (simp (lt-leb (length n) (length (take k s)) l)) h
+  pub trimmed_once : (s : List ℕ) → trimmed_text n s ≡ cond (suffix_of n s) (trimmed_text n (take (length s - length n) s)) (length s)
+  unfolding trimmed_times
+  trimmed_once s =
+      let rest = take (length s - length n) s in
+      let left = length-take-le (length s - length n) s (omega arith) in
+      often s (length s) (suc (length s)) (omega arith) (omega arith)
+      ∙ ap (λ t. cond (suffix_of n s) t (length s)) (often rest (length s) (length rest) (omega arith) (omega arith))
 
 -- What is left is no longer than the text.
 either : {a b c : ℕ} (t : Bool) → a ≤ c → b ≤ c → cond t a b ≤ c

@@ -1,6 +1,5 @@
 -- Parts of texts: a text is the list of its bytes.
-use Rattle.std.specs.Prelude.{ℕ, zero, suc, ◌-◌, Bool, ◌&&◌, cond, List, map, leb, length, take, drop}
-use Rattle.ids.specs.declared.lookup.Found.{Found}
+use Rattle.std.specs.Prelude.{ℕ, zero, suc, ◌-◌, Bool, ◌&&◌, cond, List, map, leb, length, take, drop, Option}
 use Rattle.ids.specs.Cmp.{equal}
 use Rattle.ids.specs.First.{is_at}
 use Rattle.ids.specs.Bytes.{upper_of}
@@ -19,7 +18,7 @@ abbrev pub equal_ignoring_case : List ℕ → List ℕ → Bool
 equal_ignoring_case a b = equal (map upper_of a) (map upper_of b)
 
 -- the first place where n stands in s, both in upper case
-abbrev pub first_place_ignoring_case : List ℕ → List ℕ → Found
+abbrev pub first_place_ignoring_case : List ℕ → List ℕ → Option ℕ
 first_place_ignoring_case n s = first_place (map upper_of n) (map upper_of s)
 
 -- the length of s without n at its end, taken away up to m times

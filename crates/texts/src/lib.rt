@@ -2,7 +2,7 @@
 // caller.
 //
 // The definitions that the contracts cite are in specs/. Laws that a caller cites are in proofs/:
-// Texts and Trims (what is found in a text lies in it).
+// Trims (how a text ends, and what is found in a text lies in it).
 #![tactic(auto)]
 
 mod text; // where something stands in a text

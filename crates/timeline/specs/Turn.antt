@@ -1,8 +1,6 @@
 -- Which call or leg the clock falls to. `arrs` and `deps` are the calls' arrivals and departures, in order; calls are counted from 0. Definitions only.
-use Rattle.std.specs.Prelude.{ℕ, ◌+◌, ◌-◌, Bool, ◌&&◌, cond, List, leb, ltb, length, get_or}
+use Rattle.std.specs.Prelude.{ℕ, ◌+◌, ◌-◌, Bool, ◌&&◌, cond, List, leb, ltb, length, get_or, Option, Some, None}
 use Rattle.ids.specs.First.{first}
-use Rattle.ids.specs.declared.lookup.Found.{Found}
-use Rattle.ids.specs.declared.lookup.Found.TheVariants.{At as Row, Nothing}
 use Rattle.timeline.specs.declared.turn.Turn.{Turn}
 use Rattle.timeline.specs.declared.turn.Turn.TheVariants.{At, Between, Towards, After}
 
@@ -27,10 +25,10 @@ unfoldable pub edge_of : ℕ → List ℕ → Turn
 edge_of clock arrs = cond (ltb (length arrs) 2) Towards (cond (ltb clock (time_at arrs 0)) Towards After)
 
 -- a call comes before a leg, and a leg before the rest
-abbrev pub turn_from : Found → Found → Turn → Turn
-turn_from (Row k) leg rest = At k
-turn_from Nothing (Row k) rest = Between k
-turn_from Nothing Nothing rest = rest
+abbrev pub turn_from : Option ℕ → Option ℕ → Turn → Turn
+turn_from (Some k) leg rest = At k
+turn_from None (Some k) rest = Between k
+turn_from None None rest = rest
 
 unfoldable pub turn_of : ℕ → List ℕ → List ℕ → Turn
 turn_of clock arrs deps =

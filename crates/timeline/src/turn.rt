@@ -4,8 +4,6 @@ ghost use Rattle.std.specs.Prelude.{◌≡◌, length, ◌-◌};
 ghost use Rattle.ids.specs.First.{first};
 ghost use Rattle.timeline.specs.Turn.{time_at, during, alongside, under_way, edge_of, turn_of};
 
-use ids::Found;
-
 #[derive(Clone, Copy)]
 pub enum Turn {
     // Alongside this call.
@@ -22,53 +20,48 @@ pub enum Turn {
 pub fn moment(column: &[u64], k: usize) -> u64
     ensures { result ≡ time_at column.now k }
 {
-    if column.len() <= k {
-        return 0;
+    match column.get(k) {
+        Some(moment) => *moment,
+        None => 0,
     }
-    column[k]
 }
 
 // Whether the clock is between two moments, both included.
+#[tactic(auto, unfolding(crate::specs::Turn::during))]
 fn within(clock: u64, from: u64, to: u64) -> bool
     ensures { result ≡ during clock from to }
 {
-    if clock < from {
-        return false;
-    }
-    clock <= to
+    from <= clock && clock <= to
 }
 
 // The first call that the clock is alongside of.
-fn call_at(arrivals: &[u64], departures: &[u64], clock: u64) -> Found
+#[tactic(auto, using(ids::proofs::Search::first_miss))]
+fn call_at(arrivals: &[u64], departures: &[u64], clock: u64) -> Option<usize>
     ensures { result ≡ first (alongside clock arrivals.now departures.now) (length arrivals.now) }
 {
-    let mut k = 0;
-    while k < arrivals.len() {
+    for k in 0..arrivals.len() {
         let from = moment(arrivals, k);
         let to = moment(departures, k);
         if within(clock, from, to) {
-            return Found::At(k);
+            return Some(k);
         }
-        k += 1;
     }
-    Found::Nothing
+    None
 }
 
 // The first call with the clock between its departure and the next call's arrival.
-fn leg_at(arrivals: &[u64], departures: &[u64], clock: u64) -> Found
+#[tactic(auto, using(ids::proofs::Search::first_miss))]
+fn leg_at(arrivals: &[u64], departures: &[u64], clock: u64) -> Option<usize>
     ensures { result ≡ first (under_way clock arrivals.now departures.now) (length arrivals.now - 1) }
 {
-    let n = arrivals.len();
-    let mut k = 0;
-    while k + 1 < n {
+    for k in 0..arrivals.len().saturating_sub(1) {
         let from = moment(departures, k);
         let to = moment(arrivals, k + 1);
         if within(clock, from, to) {
-            return Found::At(k);
+            return Some(k);
         }
-        k += 1;
     }
-    Found::Nothing
+    None
 }
 
 // Before the first call or after the last: a single call is always sailed to.
@@ -88,11 +81,11 @@ pub fn turn_of(arrivals: &[u64], departures: &[u64], clock: u64) -> Turn
     ensures { result ≡ turn_of clock arrivals.now departures.now }
 {
     let call = call_at(arrivals, departures, clock);
-    if let Found::At(k) = call {
+    if let Some(k) = call {
         return Turn::At(k);
     }
     let leg = leg_at(arrivals, departures, clock);
-    if let Found::At(k) = leg {
+    if let Some(k) = leg {
         return Turn::Between(k);
     }
     edge(arrivals, clock)

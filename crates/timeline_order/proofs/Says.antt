@@ -1,4 +1,5 @@
 -- What a turn says of the clock: of any calls, and of calls whose times do not go back. Assumes nothing.
+use Rattle.std.specs.Prelude.{Option, Some, None}
 use Prim.Native.Nat.{ℕ, zero, suc, ◌+◌, ◌-◌, ◌<◌, ◌≤◌}
 use native.Mathlib.Nat.{eq-or-lt_of_le, le_of_suc-le-suc, le_trans}
 use native.Mathlib.Numerals.{add-one}
@@ -11,8 +12,6 @@ use borrow.Author.Tests.{leb-true, leb-false, le-leb, ltb-true, ltb-false}
 use lib.Dec.{leb, ltb}
 use lib.ListN.{length}
 use Rattle.ids.specs.First.{first}
-use Rattle.ids.specs.declared.lookup.Found.{Found}
-use Rattle.ids.specs.declared.lookup.Found.TheVariants.{At as Row, Nothing}
 use Rattle.ids.proofs.Search.{first_found, first_none, first_before}
 use Rattle.ids.proofs.ByteOrder.{clash}
 use Rattle.timeline.specs.Turn.{time_at, during, alongside, under_way, edge_of, turn_from, turn_of}
@@ -65,16 +64,16 @@ module _ (clock : ℕ) (arrs deps : List ℕ) where
   unfolding turn_of
   turn_says = go (first (alongside clock arrs deps) (length arrs)) (first (under_way clock arrs deps) (length arrs - 1)) refl refl
     where
-      go : (f g : Found) → first (alongside clock arrs deps) (length arrs) ≡ f → first (under_way clock arrs deps) (length arrs - 1) ≡ g → Says clock arrs deps (turn_from f g (edge_of clock arrs))
-      go (Row k) g e d =
+      go : (f g : Option ℕ) → first (alongside clock arrs deps) (length arrs) ≡ f → first (under_way clock arrs deps) (length arrs - 1) ≡ g → Says clock arrs deps (turn_from f g (edge_of clock arrs))
+      go (Some k) g e d =
           let h = first_found (alongside clock arrs deps) (length arrs) k e in
           let t = during-true clock (time_at arrs k) (time_at deps k) h.1 in
           (h.0, t.0, t.1, first_before (alongside clock arrs deps) (length arrs) k e)
-      go Nothing (Row k) e d =
+      go None (Some k) e d =
           let h = first_found (under_way clock arrs deps) (length arrs - 1) k d in
           let t = during-true clock (time_at deps k) (time_at arrs (k + 1)) h.1 in
           (omega (arith, h.0), t.0, t.1, first_none (alongside clock arrs deps) (length arrs) e)
-      go Nothing Nothing e d =
+      go None None e d =
           edge_says (first_none (alongside clock arrs deps) (length arrs) e) (λ k l. first_none (under_way clock arrs deps) (length arrs - 1) d k (omega arith))
 
 -- ---- of calls whose times do not go back

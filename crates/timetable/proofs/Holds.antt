@@ -13,10 +13,11 @@ use Rattle.ids.proofs.ByteOrder.{clash}
 use Rattle.columns.specs.Rows.{bit_of, counts}
 use Rattle.tables.specs.Pools.{Pools, part_of}
 use Rattle.tables.specs.Bounds.{chart_bounds}
-use Rattle.refusals.specs.Refuse.{always, where_set, refusal_of}
+use Rattle.verdicts.specs.Refuse.{refusal_of}
+use Rattle.tables.specs.Marks.{always, where_set}
 use Rattle.tables.specs.declared.lent.Journey.{Journey}
 use Rattle.tables.specs.declared.lent.Tables.{Tables}
-use Rattle.refusals.proofs.Facts.{Sized, Counts, all_count, part_at}
+use Rattle.verdicts.proofs.Facts.{Sized, Counts, all_count, part_at}
 use Rattle.lookup_rules.proofs.Parts.{row_ids_good, alias_ids_good, line_tokens_short, lines_ascend}
 use Rattle.asked_rules.proofs.Parts.{journey_departure, journey_departs, journey_offset, journey_departure_between, journey_offset_between}
 use Rattle.checks.specs.Operations.{matching_causes}

@@ -11,15 +11,15 @@ ghost use Rattle.timetable.specs.Answers.{matched_of};
 
 use asked_journey::{departs, local, route};
 use checks::check_matching;
-use ids::Found;
 use lent_plans::plan_of;
 use matching::{Named, resolve};
 use moments::{today, yesterday};
-use tables::{Bounds, Journey, Tables};
+use refusals::number_or_zero;
+use tables::{Bounds, Journey, Lent, Tables};
 use timetable_answers::{Matched, trip_answer};
 
 // The trip, of tables that are not refused.
-fn trip_of(bytes: &[u8], words: &[u32], times: &[i64], t: Tables, j: Journey) -> Found
+fn trip_of(bytes: &[u8], words: &[u32], times: &[i64], t: Tables, j: Journey) -> Option<usize>
     requires ready { Ready bytes.now words.now (named_of t) (plan_of t) }
     requires in_reach { InReach (local_of bytes.now times.now j) }
     ensures { result ≡ journey_trip bytes.now words.now times.now t j }
@@ -55,7 +55,14 @@ pub fn match_trip(
 ) -> Matched
     ensures { match_answer result ≡ matched_of (pools bytes.now words.now times.now reals.now dists.now) t j }
 {
-    let refusal = check_matching(bytes, words, times, reals, dists, Bounds::chart(), t, j);
+    let lent = Lent {
+        bytes,
+        words,
+        times,
+        reals,
+        dists,
+    };
+    let refusal = number_or_zero(&check_matching(&lent, Bounds::chart(), t, j));
     if refusal != 0 {
         return Matched::Refused(refusal);
     }

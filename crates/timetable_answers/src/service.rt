@@ -1,6 +1,6 @@
 // Whether a service runs.
 ghost use Rattle.std.specs.Prelude.{◌≡◌};
-ghost use Rattle.measure.specs.Answer.{given};
+ghost use Rattle.refusals.specs.Answer.{given};
 ghost use Rattle.timetable_answers.specs.Answers.{run_answer};
 
 // What is answered of a service and a date.

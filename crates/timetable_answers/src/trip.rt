@@ -1,9 +1,7 @@
 // The trip of a journey.
 ghost use Rattle.std.specs.Prelude.{◌≡◌};
-ghost use Rattle.measure.specs.Answer.{given};
+ghost use Rattle.refusals.specs.Answer.{given};
 ghost use Rattle.timetable_answers.specs.Answers.{match_answer};
-
-use ids::Found;
 
 // What matching answers.
 #[derive(Clone, Copy)]
@@ -16,11 +14,11 @@ pub enum Matched {
 }
 
 // Where nothing is refused.
-pub fn trip_answer(found: Found) -> Matched
+pub fn trip_answer(found: Option<usize>) -> Matched
     ensures { match_answer result ≡ given found }
 {
     match found {
-        Found::At(trip) => Matched::Trip(trip),
-        Found::Nothing => Matched::Nothing,
+        Some(trip) => Matched::Trip(trip),
+        None => Matched::Nothing,
     }
 }

@@ -3,7 +3,6 @@ ghost use Rattle.std.specs.Prelude.{◌≡◌};
 ghost use Rattle.alias_keys.specs.Aliases.{Known, first_trip, keys_of};
 
 use alias_keys::{or_alias, or_local, or_uuid};
-use ids::Found;
 use tables::{Aliases, IdRows};
 
 // The trip of the first of a base key's keys that stands for one. An alias of a trip that is not there is passed over.
@@ -13,22 +12,13 @@ pub fn by_alias(
     tripkeys: IdRows,
     aliases: Aliases,
     base: &[u8],
-) -> Found
+) -> Option<usize>
     requires { Known bytes.now words.now tripkeys aliases }
     ensures { result ≡ first_trip bytes.now words.now tripkeys aliases (keys_of base.now) }
 {
     let raw = key_parts::raw(base);
     let j = refs::journey_id(raw);
-    let first = or_alias(
-        bytes,
-        words,
-        tripkeys,
-        aliases,
-        Found::Nothing,
-        b"",
-        b"",
-        base,
-    );
+    let first = or_alias(bytes, words, tripkeys, aliases, None, b"", b"", base);
     let second = or_alias(bytes, words, tripkeys, aliases, first, b"", b"", raw);
     let third = or_alias(
         bytes,

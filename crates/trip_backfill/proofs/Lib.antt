@@ -1,3 +1,2 @@
--- `Copying`: a column copied into an output. `Rooms`: the operations.
-pub mod Copying
+-- `Rooms`: the operations.
 pub mod Rooms

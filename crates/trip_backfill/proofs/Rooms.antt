@@ -6,11 +6,11 @@ use mathlib.Core.List.{List, ◌++◌}
 use borrow.Author.Tests.{lt-ltb, le-ltb}
 use lib.Ieee.{Float}
 use lib.ListN.{length, drop}
-use Rattle.measure.specs.Answer.{Answer, refused, given}
+use Rattle.refusals.specs.Answer.{Answer, refused, given}
 use Rattle.answers.proofs.Told.{denied, refused_first, kept}
 use Rattle.tables.specs.Pools.{Pools, part_of}
 use Rattle.tables.specs.Bounds.{chart_bounds}
-use Rattle.refusals.specs.Refuse.{refusal_of}
+use Rattle.verdicts.specs.Refuse.{refusal_of}
 use Rattle.tables.specs.declared.lent.Tables.{Tables}
 use Rattle.geometry_checks.specs.Operations.{geometry_causes}
 use Rattle.row_distances.specs.Rows.{rows_of, dists_in, marks_in}

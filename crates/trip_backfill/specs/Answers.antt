@@ -1,10 +1,10 @@
 -- Backfill as an operation: the first refusal that applies, or how many rows are written; and the outputs.
 use Rattle.std.specs.Prelude.{ℕ, min, List, Float, length}
-use Rattle.measure.specs.Answer.{Answer}
+use Rattle.refusals.specs.Answer.{Answer}
 use Rattle.answers.specs.Answers.{unless_refused, or_short, unless_kept}
 use Rattle.tables.specs.Pools.{Pools, part_of}
 use Rattle.tables.specs.Bounds.{chart_bounds}
-use Rattle.refusals.specs.Refuse.{refusal_of}
+use Rattle.verdicts.specs.Refuse.{refusal_of}
 use Rattle.tables.specs.declared.lent.Tables.{Tables}
 use Rattle.geometry_checks.specs.Operations.{geometry_causes}
 use Rattle.row_distances.specs.Rows.{rows_of, dists_in, marks_in}

@@ -2,7 +2,6 @@
 // trip as `filled_trips` fills them.
 #![tactic(auto)]
 
-mod copy; // columns copied into the outputs
 mod trips; // the trips, in table order
 
 pub use trips::{backfill_trip, backfill_trips};

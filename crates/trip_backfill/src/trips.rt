@@ -7,12 +7,20 @@ ghost use Rattle.one_trip.specs.One.{one_of};
 ghost use Rattle.line_answers.specs.Answers.{backfill_answer};
 ghost use Rattle.trip_backfill.specs.Answers.{filled_of, filled_dists, filled_marks, room_answer, room_dists, room_marks};
 
-use crate::copy::{copy_dists, copy_marks, count};
 use filled_trips::backfill_in;
 use geometry_checks::check_geometry;
 use line_answers::Backfilled;
 use one_trip::end_of;
-use tables::{Bounds, Tables, bytes_of, dists_of};
+use refusals::number_or_zero;
+use tables::{Bounds, Lent, Tables, cut};
+
+// How many rows two columns have.
+#[tactic(auto, using(row_distances::proofs::Columns::rows_least))]
+fn count(dist: &[f32], measured: &[u8]) -> usize
+    ensures { result ≡ length (rows_of dist.now measured.now) }
+{
+    dist.len().min(measured.len())
+}
 
 // The trips from a to before e.
 fn backfill_each(
@@ -29,10 +37,8 @@ fn backfill_each(
     ensures dist_after { dist.new ≡ dists_in (after_trips bytes.now words.now reals.now t a (e - a) (rows_of dist.old measured.old)) }
     ensures measured_after { measured.new ≡ marks_in (after_trips bytes.now words.now reals.now t a (e - a) (rows_of dist.old measured.old)) }
 {
-    let mut k = a;
-    while k < e {
+    for k in a..e {
         backfill_in(bytes, words, reals, t, k, dist, measured);
-        k += 1;
     }
 }
 
@@ -54,8 +60,8 @@ fn lay(
     ensures dist_after { dist.new ≡ dists_in (after_trips bytes.now words.now reals.now t a (e - a) (rows_of column.now flags.now)) }
     ensures measured_after { measured.new ≡ marks_in (after_trips bytes.now words.now reals.now t a (e - a) (rows_of column.now flags.now)) }
 {
-    copy_dists(column, dist);
-    copy_marks(flags, measured);
+    dist.copy_from_slice(&column[..dist.len()]);
+    measured.copy_from_slice(&flags[..measured.len()]);
     backfill_each(bytes, words, reals, t, a, e, dist, measured);
 }
 
@@ -115,7 +121,14 @@ fn backfill_between(
     ensures dist_after { dist.new ≡ filled_dists (pools bytes.now words.now times.now reals.now dists.now) t a (e - a) dist.old measured.old }
     ensures measured_after { measured.new ≡ filled_marks (pools bytes.now words.now times.now reals.now dists.now) t a (e - a) dist.old measured.old }
 {
-    let refusal = check_geometry(bytes, words, times, reals, dists, Bounds::chart(), t);
+    let lent = Lent {
+        bytes,
+        words,
+        times,
+        reals,
+        dists,
+    };
+    let refusal = number_or_zero(&check_geometry(&lent, Bounds::chart(), t));
     if refusal != 0 {
         return Backfilled::Refused(refusal);
     }
@@ -129,8 +142,8 @@ fn backfill_between(
         t,
         a,
         e,
-        dists_of(dists, column),
-        bytes_of(bytes, flags),
+        cut(dists, column),
+        cut(bytes, flags),
         dist,
         measured,
     )

@@ -1,13 +1,12 @@
 -- The first of several answers that is one. Assumes nothing.
+use Rattle.std.specs.Prelude.{Option, Some, None, ℕ}
 use mathlib.Core.Path.{◌≡◌, refl}
 use Rattle.ids.specs.First.{or_else}
-use Rattle.ids.specs.declared.lookup.Found.{Found}
-use Rattle.ids.specs.declared.lookup.Found.TheVariants.{At, Nothing}
 
-pub or_or : (f g h : Found) → or_else (or_else f g) h ≡ or_else f (or_else g h)
-or_or (At k) g h = refl
-or_or Nothing g h = refl
+pub or_or : (f g h : Option ℕ) → or_else (or_else f g) h ≡ or_else f (or_else g h)
+or_or (Some k) g h = refl
+or_or None g h = refl
 
-pub or_nothing : (f : Found) → or_else f Nothing ≡ f
-or_nothing (At k) = refl
-or_nothing Nothing = refl
+pub or_nothing : (f : Option ℕ) → or_else f None ≡ f
+or_nothing (Some k) = refl
+or_nothing None = refl

@@ -1,11 +1,11 @@
 -- The projection of a trip as an operation: the first refusal that applies, or how many rows are written; and the output.
 use Rattle.std.specs.Prelude.{ℕ, List, length}
 use Rattle.ids.specs.Pool.{id_of}
-use Rattle.measure.specs.Answer.{Answer}
+use Rattle.refusals.specs.Answer.{Answer}
 use Rattle.answers.specs.Answers.{unless_refused, or_short, unless_kept}
 use Rattle.tables.specs.Pools.{Pools}
 use Rattle.tables.specs.Bounds.{chart_bounds}
-use Rattle.refusals.specs.Refuse.{refusal_of}
+use Rattle.verdicts.specs.Refuse.{refusal_of}
 use Rattle.tables.specs.declared.lent.LegAsked.{LegAsked}
 use Rattle.tables.specs.declared.lent.Tables.{Tables}
 use Rattle.geometry_checks.specs.Operations.{leg_causes}

@@ -6,7 +6,8 @@ ghost use Rattle.trip_projection.specs.Answers.{projected_of, output_of};
 
 use geometry_checks::check_leg;
 use line_answers::Projected;
-use tables::{Bounds, LegAsked, Tables};
+use refusals::number_or_zero;
+use tables::{Bounds, LegAsked, Lent, Tables};
 use trip_ids::by_key;
 use trip_vertices::write;
 
@@ -25,7 +26,14 @@ pub fn project_trip(
     ensures result_value { project_answer result ≡ projected_of (pools bytes.now words.now times.now reals.now dists.now) t l out.old }
     ensures out_after { out.new ≡ output_of (pools bytes.now words.now times.now reals.now dists.now) t l out.old }
 {
-    let refusal = check_leg(bytes, words, times, reals, dists, Bounds::chart(), t, l);
+    let lent = Lent {
+        bytes,
+        words,
+        times,
+        reals,
+        dists,
+    };
+    let refusal = number_or_zero(&check_leg(&lent, Bounds::chart(), t, l));
     if refusal != 0 {
         return Projected::Refused(refusal);
     }

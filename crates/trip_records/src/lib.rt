@@ -12,7 +12,7 @@ use ids::Span;
 use record_faults::Faults;
 use record_refusals::{Lent, check_lent, verdict};
 use stop_record::StopTime;
-use tables::{StopTimes, reals_of};
+use tables::{StopTimes, cut};
 
 // How many stops there are.
 fn stop_count(l: Lent) -> u32
@@ -55,8 +55,8 @@ fn core(
         reals,
         stops,
         calls,
-        reals_of(reals, lats),
-        reals_of(reals, lons),
+        cut(reals, lats),
+        cut(reals, lons),
         0,
         rows,
         &mut dists[..n],

@@ -1,5 +1,5 @@
 -- What geometry reads of the lent tables: where the stop of a row is, and the line of a trip's shape.
-use Rattle.std.specs.Prelude.{ℕ, ◌+◌, cond, List, eqb, Float, get_or}
+use Rattle.std.specs.Prelude.{ℕ, ◌+◌, cond, List, eqb, Float, get_or, Option, Some, None}
 use Rattle.std.specs.Float.{nan}
 use Rattle.ids.specs.Pool.{cell_of}
 use Rattle.ids.specs.declared.pool.Span.{Span}
@@ -12,8 +12,6 @@ use Rattle.tables.specs.declared.lent.Stops.{Stops}
 use Rattle.tables.specs.declared.lent.Trips.{Trips}
 use Rattle.lengths.specs.Line.{line_of}
 use Rattle.lengths.specs.declared.line.Point.{Point}
-use Rattle.projection.specs.declared.cursor.Position.{Position}
-use Rattle.projection.specs.declared.cursor.Position.TheVariants.{Known, Missing}
 
 -- row k of a column of reals
 abbrev pub real_of : List Float → Span → ℕ → Float
@@ -24,11 +22,11 @@ unfoldable pub stop_point : List Float → Stops → ℕ → Point
 stop_point reals s stop = record { lat = real_of reals s.lat stop; lon = real_of reals s.lon stop }
 
 -- where a stop is
-unfoldable pub stop_position : List ℕ → List Float → Stops → ℕ → Position
-stop_position bytes reals s stop = cond (eqb (bit_of bytes s.positioned stop) 0) Missing (Known (stop_point reals s stop))
+unfoldable pub stop_position : List ℕ → List Float → Stops → ℕ → Option Point
+stop_position bytes reals s stop = cond (eqb (bit_of bytes s.positioned stop) 0) None (Some (stop_point reals s stop))
 
 -- where the stop of a row of the stop times is
-unfoldable pub row_position : List ℕ → List ℕ → List Float → Stops → StopTimes → ℕ → Position
+unfoldable pub row_position : List ℕ → List ℕ → List Float → Stops → StopTimes → ℕ → Option Point
 row_position bytes words reals s c row = stop_position bytes reals s (cell_of words c.stop row)
 
 -- the points of a shape, counted from the first of all

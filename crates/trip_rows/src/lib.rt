@@ -5,4 +5,4 @@ mod line; // line.rt: the line of a shape, as two columns
 mod stop; // stop.rt: where the stop of a row is
 
 pub use line::{shape_column, shape_span, trip_span};
-pub use stop::{real, row_position, stop_point};
+pub use stop::{real, row_or, row_position, stop_point};

@@ -3,9 +3,10 @@ ghost use Rattle.std.specs.Prelude.{◌≡◌};
 ghost use Rattle.trip_rows.specs.Rows.{shape_span, trip_span, shape_column};
 
 use ids::Span;
-use tables::{Shapes, Trips, reals_of};
+use tables::{Shapes, Trips, cut};
 
 // The points of a shape, counted from the first of all.
+#[tactic(auto, unfolding(crate::specs::Rows::shape_span))]
 pub fn shape_span(words: &[u32], s: Shapes, shape: usize) -> Span
     ensures { result ≡ shape_span words.now s shape }
 {
@@ -18,6 +19,7 @@ pub fn shape_span(words: &[u32], s: Shapes, shape: usize) -> Span
 }
 
 // The points of a trip's shape; none where it has no shape.
+#[tactic(auto, unfolding(crate::specs::Rows::trip_span))]
 pub fn trip_span(bytes: &[u8], words: &[u32], t: Trips, s: Shapes, trip: usize) -> Span
     ensures { result ≡ trip_span bytes.now words.now t s trip }
 {
@@ -30,8 +32,9 @@ pub fn trip_span(bytes: &[u8], words: &[u32], t: Trips, s: Shapes, trip: usize) 
 }
 
 // Their latitudes or longitudes, of the column of all points.
+#[tactic(auto, unfolding(crate::specs::Rows::shape_column))]
 pub fn shape_column<'a>(reals: &'a [f64], column: Span, points: Span) -> &'a [f64]
     ensures { result.now ≡ shape_column reals.now column points }
 {
-    reals_of(reals_of(reals, column), points)
+    cut(cut(reals, column), points)
 }

@@ -1,27 +1,31 @@
 // Where the stop of a row is.
-ghost use Rattle.std.specs.Prelude.{◌≡◌};
+ghost use Rattle.std.specs.Prelude.{◌≡◌, ◌+◌, get_or};
 ghost use Rattle.trip_rows.specs.Rows.{real_of, stop_point, stop_position, row_position};
 
 use ids::Span;
 use lengths::Point;
-use projection::Position;
 use tables::{StopTimes, Stops};
+
+// Row k of a column of a pool, or a blank past the pool's end.
+pub fn row_or<T: Copy>(pool: &[T], span: Span, k: usize, blank: T) -> T
+    ensures { result ≡ get_or pool.now (span.at + k) blank }
+{
+    let at = span.at as usize;
+    if pool.len() <= at || pool.len() - at <= k {
+        return blank;
+    }
+    pool[at + k]
+}
 
 // Row k of a column of reals, or NaN past the end of the pool.
 pub fn real(reals: &[f64], span: Span, k: usize) -> f64
     ensures { result ≡ real_of reals.now span k }
 {
-    if reals.len() <= k {
-        return 0.0 / 0.0;
-    }
-    let at = span.at as usize + k;
-    if reals.len() <= at {
-        return 0.0 / 0.0;
-    }
-    reals[at]
+    row_or(reals, span, k, f64::NAN)
 }
 
 // Where a stop's columns say that it is.
+#[tactic(auto, unfolding(crate::specs::Rows::stop_point))]
 pub fn stop_point(reals: &[f64], s: Stops, stop: usize) -> Point
     ensures { result ≡ stop_point reals.now s stop }
 {
@@ -34,17 +38,19 @@ pub fn stop_point(reals: &[f64], s: Stops, stop: usize) -> Point
 }
 
 // Where a stop is.
-fn stop_position(bytes: &[u8], reals: &[f64], s: Stops, stop: usize) -> Position
+#[tactic(auto, unfolding(crate::specs::Rows::stop_position))]
+fn stop_position(bytes: &[u8], reals: &[f64], s: Stops, stop: usize) -> Option<Point>
     ensures { result ≡ stop_position bytes.now reals.now s stop }
 {
     let positioned = s.positioned;
     if columns::bit(bytes, positioned, stop) == 0 {
-        return Position::Missing;
+        return None;
     }
-    Position::Known(stop_point(reals, s, stop))
+    Some(stop_point(reals, s, stop))
 }
 
 // Where the stop of a row of the stop times is.
+#[tactic(auto, unfolding(crate::specs::Rows::row_position))]
 pub fn row_position(
     bytes: &[u8],
     words: &[u32],
@@ -52,7 +58,7 @@ pub fn row_position(
     s: Stops,
     c: StopTimes,
     row: usize,
-) -> Position
+) -> Option<Point>
     ensures { result ≡ row_position bytes.now words.now reals.now s c row }
 {
     let stop = c.stop;

@@ -1,14 +1,14 @@
 -- What is so of the trips where no cause of them is there. A number after `at` is a cause's place in the list.
--- `Rattle.refusals.proofs.Facts` has what each kind of fact says, and `counted` for the table's columns and counts.
+-- `Rattle.verdicts.proofs.Facts` has what each kind of fact says, and `counted` for the table's columns and counts.
 use Prim.Native.Nat.{ℕ}
 use mathlib.Core.Bool.{false}
 use lib.ListN.{drop}
 use Rattle.tables.specs.Pools.{Pools}
-use Rattle.refusals.specs.Refuse.{always}
+use Rattle.tables.specs.Marks.{always}
 use Rattle.tables.specs.declared.bounds.Bounds.{Bounds}
 use Rattle.tables.specs.declared.lent.Trips.{Trips}
-use Rattle.refusals.proofs.Passed.{Clear, clear_drop, clear_part}
-use Rattle.refusals.proofs.Facts.{RangesWithin, ranges_within, IdsHold, ids_hold}
+use Rattle.verdicts.proofs.Passed.{Clear, clear_drop, clear_part}
+use Rattle.verdicts.proofs.Facts.{RangesWithin, ranges_within, IdsHold, ids_hold}
 use Rattle.trip_rules.specs.Parts.{trips_causes}
 
 module _ (p : Pools) where

@@ -1,15 +1,12 @@
 -- The metres along its line that a trip's distances stand for. Definitions only.
-use Rattle.std.specs.Prelude.{ℕ, cond, List, Float}
+use Rattle.unit_scales.specs.declared.metres.Affine.{Affine}
+use Rattle.std.specs.Prelude.{ℕ, cond, List, Float, Option, Some, None}
 use Rattle.ids.specs.First.{first, last}
 use Rattle.ids.specs.Pool.{cell_of}
-use Rattle.ids.specs.declared.lookup.Found.{Found}
-use Rattle.ids.specs.declared.lookup.Found.TheVariants.{At, Nothing as NoRow}
 use Rattle.lengths.specs.Line.{line_of}
 use Rattle.lengths.specs.declared.line.Point.{Point}
 use Rattle.trip_rows.specs.Rows.{real_of, stop_point}
 use Rattle.calibration.specs.Affine.{shape_dist_affine}
-use Rattle.unit_scales.specs.declared.metres.Calibrated.{Calibrated}
-use Rattle.unit_scales.specs.declared.metres.Calibrated.TheVariants.{Nothing}
 use Rattle.calibration.specs.declared.affine.Sample.{Sample}
 use Rattle.courses.specs.Course.{is_flagged, row_after, shape_part}
 use Rattle.sample_rows.specs.Samples.{sample_from}
@@ -24,16 +21,16 @@ abbrev pub shape_line : List ℕ → List Float → Course → ℕ → List Poin
 shape_line words reals c shape = line_of (shape_part words reals c.shapes c.points.lat shape) (shape_part words reals c.shapes c.points.lon shape)
 
 -- from two rows, if both are found, along the line of a shape
-abbrev pub rows_affine : List ℕ → List Float → List Float → Course → ℕ → Found → Found → Calibrated
-rows_affine words reals dists c shape NoRow j = Nothing
-rows_affine words reals dists c shape (At i) NoRow = Nothing
-rows_affine words reals dists c shape (At i) (At j) = shape_dist_affine (shape_line words reals c shape) (sample_at words reals dists c i) (sample_at words reals dists c j)
+abbrev pub rows_affine : List ℕ → List Float → List Float → Course → ℕ → Option ℕ → Option ℕ → Option Affine
+rows_affine words reals dists c shape None j = None
+rows_affine words reals dists c shape (Some i) None = None
+rows_affine words reals dists c shape (Some i) (Some j) = shape_dist_affine (shape_line words reals c shape) (sample_at words reals dists c i) (sample_at words reals dists c j)
 
 -- from the trip's first and last sample; none where it has no shape
-unfoldable pub trip_affine : List ℕ → List ℕ → List Float → List Float → Course → ℕ → Calibrated
+unfoldable pub trip_affine : List ℕ → List ℕ → List Float → List Float → Course → ℕ → Option Affine
 trip_affine bytes words reals dists c trip =
     let from = cell_of words c.trips.first trip in
     let n = cell_of words c.trips.count trip in
     let samples = sample_from bytes words c from in
     cond (is_flagged bytes c.trips.shaped trip)
-    (rows_affine words reals dists c (cell_of words c.trips.shape trip) (row_after from (first samples n)) (row_after from (last samples n))) Nothing
+    (rows_affine words reals dists c (cell_of words c.trips.shape trip) (row_after from (first samples n)) (row_after from (last samples n))) None

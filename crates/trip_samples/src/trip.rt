@@ -5,9 +5,8 @@ ghost use Rattle.trip_samples.specs.Trip.{rows_affine, trip_affine};
 use crate::row::sample;
 use calibration::shape_dist_affine;
 use courses::{Course, flagged, shape_lat, shape_lon};
-use ids::Found;
 use sample_rows::{first_sample, last_sample};
-use unit_scales::Calibrated;
+use unit_scales::Affine;
 
 // From two rows, if both are found, along the line of a shape.
 fn rows_affine(
@@ -16,16 +15,16 @@ fn rows_affine(
     dists: &[f32],
     c: Course,
     shape: usize,
-    i: Found,
-    j: Found,
-) -> Calibrated
+    i: Option<usize>,
+    j: Option<usize>,
+) -> Option<Affine>
     ensures { result ≡ rows_affine words.now reals.now dists.now c shape i j }
 {
-    let Found::At(i) = i else {
-        return Calibrated::Nothing;
+    let Some(i) = i else {
+        return None;
     };
-    let Found::At(j) = j else {
-        return Calibrated::Nothing;
+    let Some(j) = j else {
+        return None;
     };
     shape_dist_affine(
         shape_lat(words, reals, c, shape),
@@ -36,6 +35,7 @@ fn rows_affine(
 }
 
 // From the trip's first and last sample; none where it has no shape.
+#[tactic(auto, unfolding(crate::specs::Trip::trip_affine))]
 pub fn trip_shape_dist_affine(
     bytes: &[u8],
     words: &[u32],
@@ -43,19 +43,15 @@ pub fn trip_shape_dist_affine(
     dists: &[f32],
     c: Course,
     trip: usize,
-) -> Calibrated
+) -> Option<Affine>
     ensures { result ≡ trip_affine bytes.now words.now reals.now dists.now c trip }
 {
-    let shaped = c.trips.shaped;
-    let shapes = c.trips.shape;
-    let firsts = c.trips.first;
-    let counts = c.trips.count;
-    if !flagged(bytes, shaped, trip) {
-        return Calibrated::Nothing;
+    if !flagged(bytes, c.trips.shaped, trip) {
+        return None;
     }
-    let shape = ids::cell(words, shapes, trip) as usize;
-    let from = ids::cell(words, firsts, trip);
-    let n = ids::cell(words, counts, trip);
+    let shape = ids::cell(words, c.trips.shape, trip) as usize;
+    let from = ids::cell(words, c.trips.first, trip);
+    let n = ids::cell(words, c.trips.count, trip);
     let i = first_sample(bytes, words, c, from, n);
     let j = last_sample(bytes, words, c, from, n);
     rows_affine(words, reals, dists, c, shape, i, j)

@@ -1,4 +1,5 @@
 -- Rows whose ids have a tail: of those up to the first, none names another trip than the first does. Assumes nothing.
+use Rattle.std.specs.Prelude.{Some, None}
 use Prim.Native.Nat.{ℕ, ◌+◌, ◌<◌, ◌≤◌}
 use native.Mathlib.Omega.{arith}
 use native.Mathlib.Nat.{eq-or-lt_of_le}
@@ -9,7 +10,6 @@ use mathlib.Core.List.{List}
 use borrow.Author.Tests.{eq-eqb}
 use lib.Dec.{eqb}
 use Rattle.ids.specs.Pool.{cell_of, id_of}
-use Rattle.ids.specs.declared.lookup.Found.TheVariants.{At, Nothing}
 use Rattle.ids.proofs.ByteOrder.{clash}
 use Rattle.tables.specs.declared.lent.IdRows.{IdRows}
 use Rattle.ids.proofs.Search.{first_before}
@@ -24,15 +24,15 @@ not_both true x y e = rw (eq-eqb x y e)
 not_both false x y e = refl
 
 module _ (bytes words : List ℕ) (tripkeys : IdRows) (tail : List ℕ) (k trip : ℕ) where
-  pub up_to_first : tail_first bytes words tripkeys tail Nothing ≡ At k → trip ≡ cell_of words tripkeys.row k →
-      (j : ℕ) → j < k + 1 → tail_row bytes words tripkeys tail (At trip) j ≡ false
+  pub up_to_first : tail_first bytes words tripkeys tail None ≡ Some k → trip ≡ cell_of words tripkeys.row k →
+      (j : ℕ) → j < k + 1 → tail_row bytes words tripkeys tail (Some trip) j ≡ false
   unfolding tail_row
   up_to_first e t j l = ⊎_elim here before (eq-or-lt_of_le m) where
     m : j ≤ k
     m = omega arith
 
-    here : j ≡ k → tail_row bytes words tripkeys tail (At trip) j ≡ false
+    here : j ≡ k → tail_row bytes words tripkeys tail (Some trip) j ≡ false
     here q = rw q (not_both (has_tail tail (id_of bytes words tripkeys.id k)) (cell_of words tripkeys.row k) trip (sym t))
 
-    before : j < k → tail_row bytes words tripkeys tail (At trip) j ≡ false
-    before q = none_of (has_tail tail (id_of bytes words tripkeys.id j)) _ (first_before (tail_row bytes words tripkeys tail Nothing) _ k e j q)
+    before : j < k → tail_row bytes words tripkeys tail (Some trip) j ≡ false
+    before q = none_of (has_tail tail (id_of bytes words tripkeys.id j)) _ (first_before (tail_row bytes words tripkeys tail None) _ k e j q)

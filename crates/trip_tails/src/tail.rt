@@ -2,7 +2,6 @@
 ghost use Rattle.std.specs.Prelude.{ℕ, ◌<◌, ◌≡◌, false};
 ghost use Rattle.trip_tails.specs.Tails.{has_tail, tail_row, tail_first, only_trip, tail_trip};
 
-use ids::Found;
 use tables::IdRows;
 
 // Whether the id ends with the tail or, where that has 8 bytes or more, contains it.
@@ -24,7 +23,7 @@ fn is_row(
     words: &[u32],
     tripkeys: IdRows,
     tail: &[u8],
-    found: Found,
+    found: Option<usize>,
     k: usize,
 ) -> bool
     ensures { result ≡ tail_row bytes.now words.now tripkeys tail.now found k }
@@ -33,60 +32,58 @@ fn is_row(
     let row = tripkeys.row;
     if has_tail(ids::id(bytes, words, id, k), tail) {
         return match found {
-            Found::At(trip) => ids::cell(words, row, k) as usize != trip,
-            Found::Nothing => true,
+            Some(trip) => ids::cell(words, row, k) as usize != trip,
+            None => true,
         };
     }
     false
 }
 
 // The first such row, of which there is none before `from`.
+#[tactic(auto, using(ids::proofs::Search::first_miss))]
 fn next_row(
     bytes: &[u8],
     words: &[u32],
     tripkeys: IdRows,
     tail: &[u8],
-    found: Found,
+    found: Option<usize>,
     from: usize,
-) -> Found
+) -> Option<usize>
     requires { (j : ℕ) → j < from → tail_row bytes.now words.now tripkeys tail.now found j ≡ false }
     ensures { result ≡ tail_first bytes.now words.now tripkeys tail.now found }
 {
-    let n = tripkeys.id.starts.n as usize;
-    let mut k = from;
-    while k < n {
+    for k in from..tripkeys.id.starts.n as usize {
         if is_row(bytes, words, tripkeys, tail, found, k) {
-            return Found::At(k);
+            return Some(k);
         }
-        k += 1;
     }
-    Found::Nothing
+    None
 }
 
 // The trip of the first row whose id has the tail, unless a later such row names another.
-fn only_trip(bytes: &[u8], words: &[u32], tripkeys: IdRows, tail: &[u8]) -> Found
+fn only_trip(bytes: &[u8], words: &[u32], tripkeys: IdRows, tail: &[u8]) -> Option<usize>
     ensures { result ≡ only_trip bytes.now words.now tripkeys tail.now }
 {
     let row = tripkeys.row;
-    match next_row(bytes, words, tripkeys, tail, Found::Nothing, 0) {
-        Found::At(k) => {
-            let trip = Found::At(ids::cell(words, row, k) as usize);
+    match next_row(bytes, words, tripkeys, tail, None, 0) {
+        Some(k) => {
+            let trip = Some(ids::cell(words, row, k) as usize);
             match next_row(bytes, words, tripkeys, tail, trip, k + 1) {
-                Found::At(_) => Found::Nothing,
-                Found::Nothing => trip,
+                Some(_) => None,
+                None => trip,
             }
         }
-        Found::Nothing => Found::Nothing,
+        None => None,
     }
 }
 
 // The only trip whose ids have the tail of the ref, if it has one.
-pub fn by_tail(bytes: &[u8], words: &[u32], tripkeys: IdRows, base: &[u8]) -> Found
+pub fn by_tail(bytes: &[u8], words: &[u32], tripkeys: IdRows, base: &[u8]) -> Option<usize>
     ensures { result ≡ tail_trip bytes.now words.now tripkeys base.now }
 {
     let tail = key_parts::tail(base);
     if tail.len() == 0 {
-        return Found::Nothing;
+        return None;
     }
     only_trip(bytes, words, tripkeys, tail)
 }

@@ -1,4 +1,5 @@
 -- A text over 96 bytes is no line's token. Assumes nothing.
+use Rattle.std.specs.Prelude.{None}
 use Prim.Native.Nat.{ℕ, ◌<◌}
 use native.Mathlib.Omega.{arith}
 use mathlib.Core.Path.{◌≡◌, ap}
@@ -6,7 +7,6 @@ use mathlib.Core.Bool.{false}
 use mathlib.Core.List.{List, [], ◌∷◌}
 use lib.ListN.{length}
 use Rattle.ids.specs.Pool.{id_of}
-use Rattle.ids.specs.declared.lookup.Found.TheVariants.{Nothing}
 use Rattle.row_stands.specs.Stands.{stand_of, parts_at, key_of}
 use Rattle.row_lookup.specs.Rows.{row_is}
 use Rattle.row_lookup.proofs.Halves.{is_other, parts_same}
@@ -21,7 +21,7 @@ module _ (bytes words : List ℕ) (p : Plan) (short : ShortTokens bytes words p)
   unfolding stand_of row_is parts_at key_of
   off_every_line k l = is_other _ (λ e. let q = parts_same (id_of bytes words p.lines.token k ∷ []) (token ∷ []) e in let r : id_of bytes words p.lines.token k ≡ token = cc in absurd (omega (arith, short.short k l, ap length r)))
 
-  pub too_long : Nothing ≡ line_trip bytes words p token today yesterday
+  pub too_long : None ≡ line_trip bytes words p token today yesterday
   unfolding line_trip
   too_long =
       let n = p.lines.trip.n in

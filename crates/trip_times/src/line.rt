@@ -4,7 +4,6 @@ ghost use Rattle.line_fits.specs.Lines.{Planned};
 ghost use Rattle.trip_times.specs.Line.{line_trip};
 
 use departure_fits::Count;
-use ids::Found;
 use line_crowds::crowded;
 use line_fits::{best_of, first_on_line, fit_at};
 use trip_fits::Plan;
@@ -17,20 +16,20 @@ pub fn by_line(
     token: &[u8],
     today: Count,
     yesterday: Count,
-) -> Found
+) -> Option<usize>
     requires { Planned bytes.now words.now p }
     ensures { result ≡ line_trip bytes.now words.now p token.now today yesterday }
 {
     let trip = p.lines.trip;
     let from = first_on_line(bytes, words, p, token);
     match best_of(bytes, words, p, token, today, yesterday, from) {
-        Found::At(b) => {
+        Some(b) => {
             let fit = fit_at(bytes, words, p, today, yesterday, b);
             if crowded(bytes, words, p, token, today, yesterday, from, b, fit) {
-                return Found::Nothing;
+                return None;
             }
-            Found::At(ids::cell(words, trip, b) as usize)
+            Some(ids::cell(words, trip, b) as usize)
         }
-        Found::Nothing => Found::Nothing,
+        None => None,
     }
 }

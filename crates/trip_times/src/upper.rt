@@ -6,7 +6,6 @@ ghost use Rattle.trip_times.specs.Line.{line_trip, ShortTokens};
 
 use crate::line::by_line;
 use departure_fits::Count;
-use ids::Found;
 use trip_fits::Plan;
 
 // The trip of the line whose token this is in upper case. No token is over 96 bytes, so that a longer one has no line.
@@ -17,13 +16,13 @@ pub fn by_token(
     token: &[u8],
     today: Count,
     yesterday: Count,
-) -> Found
+) -> Option<usize>
     requires planned { Planned bytes.now words.now p }
     requires short_tokens { ShortTokens bytes.now words.now p }
     ensures { result ≡ line_trip bytes.now words.now p (map upper_of token.now) today yesterday }
 {
     if 96 < token.len() {
-        return Found::Nothing;
+        return None;
     }
     let mut buf = [0u8; 96];
     let n = keys::upper_into(&mut buf, 0, token);

@@ -1,4 +1,5 @@
 -- What is answered and written where only room is wanting. Assumes nothing.
+use Rattle.std.specs.Prelude.{Option, Some, None}
 use Prim.Native.Nat.{ℕ, ◌<◌, ◌≤◌}
 use native.Mathlib.Omega.{arith}
 use mathlib.Core.Path.{◌≡◌}
@@ -7,10 +8,8 @@ use borrow.Author.Tests.{lt-ltb, le-ltb}
 use lib.Ieee.{Float}
 use lib.ListN.{length, drop, length-take}
 use Rattle.ids.specs.Pool.{cell_of}
-use Rattle.ids.specs.declared.lookup.Found.{Found}
-use Rattle.ids.specs.declared.lookup.Found.TheVariants.{At, Nothing}
 use Rattle.ids.specs.declared.pool.Span.{Span}
-use Rattle.measure.specs.Answer.{refused, given}
+use Rattle.refusals.specs.Answer.{refused, given}
 use Rattle.lengths.specs.Line.{line_of}
 use Rattle.lengths.proofs.Rows.{vertex_count}
 use Rattle.tables.specs.declared.lent.Tables.{Tables}
@@ -39,10 +38,10 @@ module _ (bytes words : List ℕ) (reals : List Float) (t : Tables) (out : List 
   unfolding trip_vertices
   vertices_count trip = words_count _ _ _ _
 
-  pub of_none : {found : Found} → found ≡ Nothing → (given 0 ≡ room_answer (found_vertices bytes words reals t found) out) × (out ≡ room_output (found_vertices bytes words reals t found) out)
+  pub of_none : {found : Option ℕ} → found ≡ None → (given 0 ≡ room_answer (found_vertices bytes words reals t found) out) × (out ≡ room_output (found_vertices bytes words reals t found) out)
   of_none e = rw e (enough [] out (omega arith))
 
-  module _ {found : Found} (trip : ℕ) (e : found ≡ At trip) {n : ℕ} (c : n ≡ cell_of words t.trips.count trip) where
+  module _ {found : Option ℕ} (trip : ℕ) (e : found ≡ Some trip) {n : ℕ} (c : n ≡ cell_of words t.trips.count trip) where
     pub of_short : length out < n → (refused 9 ≡ room_answer (found_vertices bytes words reals t found) out) × (out ≡ room_output (found_vertices bytes words reals t found) out)
     of_short h = rw e (short (trip_vertices bytes words reals t trip) out (omega (arith, vertices_count trip)))
 

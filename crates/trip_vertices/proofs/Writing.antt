@@ -1,45 +1,42 @@
 -- The vertices of a trip's stops, written one by one. Assumes nothing.
+use Rattle.std.specs.Prelude.{Option, Some, None}
 use Prim.Native.Nat.{ℕ, zero, suc, ◌+◌, ◌-◌, ◌<◌, ◌≤◌}
 use native.Mathlib.Omega.{arith}
 use mathlib.Core.Path.{◌≡◌, refl, sym, ap, subst, ◌∙◌}
 use mathlib.Core.List.{List, [], ◌∷◌, ◌++◌, map}
 use lib.ListN.{length, length-map, length-set, take, drop, get_or, set}
 use lib.Seq.{paste, paste-suc, take_all}
-use Rattle.ids.specs.declared.lookup.Found.{Found}
-use Rattle.ids.specs.declared.lookup.Found.TheVariants.{At, Nothing}
 use Rattle.ids.proofs.ByteOrder.{clash}
 use Rattle.lengths.specs.declared.line.Point.{Point}
 use Rattle.near_vertex.specs.Forward.{or_vertex}
 use Rattle.projection.specs.Projection.{at_start, passed_of, projection_from, step_of}
 use Rattle.projection.specs.declared.cursor.Cursor.{Cursor}
 use Rattle.projection.specs.declared.cursor.Passed.{Passed}
-use Rattle.projection.specs.declared.cursor.Position.{Position}
-use Rattle.projection.specs.declared.cursor.Position.TheVariants.{Known, Missing}
 use Rattle.near_vertex.proofs.Range.{first_most}
 use Rattle.projection.proofs.Order.{same_count}
 use Rattle.trip_vertices.specs.declared.mark.Marked.{Marked}
 use Rattle.trip_vertices.specs.Vertices.{word_of, marked_of, positions_from, vertex_words}
 
 -- a vertex is one of the line's, or 0
-pub vertex_most : (line : List Point) (c : Cursor) (stop : Position) (k : ℕ) → (passed_of line c stop).vertex ≡ At k → k ≤ length line - 1
+pub vertex_most : (line : List Point) (c : Cursor) (stop : Option Point) (k : ℕ) → (passed_of line c stop).vertex ≡ Some k → k ≤ length line - 1
 unfolding step_of
-vertex_most line c (Known p) k e = let q = ap (λ (f : Found). or_vertex f 0) e in rw (← q) (first_most line c.at p)
-vertex_most line c Missing k e = clash (cc)
+vertex_most line c (Some p) k e = let q = ap (λ (f : Option ℕ). or_vertex f 0) e in rw (← q) (first_most line c.at p)
+vertex_most line c None k e = clash (cc)
 
 -- a stop with a vertex, and one without, as they are written
-module _ (line : List Point) (at : ℕ) (stop : Position) (p : Passed) (e : p ≡ passed_of line (record { at = at }) stop) where
-  pub mark_small : (k : ℕ) → p.vertex ≡ At k → length line ≤ 4294967295 → k < 4294967296
+module _ (line : List Point) (at : ℕ) (stop : Option Point) (p : Passed) (e : p ≡ passed_of line (record { at = at }) stop) where
+  pub mark_small : (k : ℕ) → p.vertex ≡ Some k → length line ≤ 4294967295 → k < 4294967296
   mark_small k q h = omega (arith, vertex_most line (record { at = at }) stop k (ap (λ (x : Passed). x.vertex) (sym e) ∙ q))
 
-  pub mark_at : (k : ℕ) → p.vertex ≡ At k → ◌≡◌ {A = Marked} (record { at = p.cursor.at; word = k }) (marked_of line at stop)
+  pub mark_at : (k : ℕ) → p.vertex ≡ Some k → ◌≡◌ {A = Marked} (record { at = p.cursor.at; word = k }) (marked_of line at stop)
   unfolding marked_of
   mark_at k q = rw (← e, q)
 
-  pub mark_none : p.vertex ≡ Nothing → ◌≡◌ {A = Marked} (record { at = p.cursor.at; word = 4294967295 }) (marked_of line at stop)
+  pub mark_none : p.vertex ≡ None → ◌≡◌ {A = Marked} (record { at = p.cursor.at; word = 4294967295 }) (marked_of line at stop)
   unfolding marked_of
   mark_none q = rw (← e, q)
 
-module _ (line : List Point) (position : ℕ → Position) where
+module _ (line : List Point) (position : ℕ → Option Point) where
   -- what is still to be written of n rows, from a cursor on
   abbrev pub left : ℕ → ℕ → ℕ → List ℕ
   left at row n = map word_of (projection_from line (record { at = at }) (positions_from position row n))
@@ -92,7 +89,7 @@ module _ (vs out₀ : List ℕ) where
   all_of_them k l = ap (λ (ws : List ℕ). ws ++ drop k out₀) (take_all k vs (omega arith))
 
 -- the loop: where it stands after k rows
-module _ (line : List Point) (position : ℕ → Position) (first n : ℕ) (out₀ : List ℕ) where
+module _ (line : List Point) (position : ℕ → Option Point) (first n : ℕ) (out₀ : List ℕ) where
   abbrev all : List ℕ
   all = vertex_words line position first n
 

@@ -3,8 +3,8 @@ ghost use Rattle.std.specs.Prelude.{◌≡◌, ◌≤◌, length};
 ghost use Rattle.lengths.specs.Line.{line_of};
 ghost use Rattle.trip_vertices.specs.Vertices.{word_of, marked_of};
 
-use ids::Found;
-use projection::{Cursor, Position};
+use lengths::Point;
+use projection::Cursor;
 
 // Where the cursor is after a stop, and the stop's vertex as a word.
 #[derive(Clone, Copy)]
@@ -14,7 +14,7 @@ pub(crate) struct Marked {
 }
 
 // Takes a stop.
-pub(crate) fn mark(lat: &[f64], lon: &[f64], at: usize, stop: Position) -> Marked
+pub(crate) fn mark(lat: &[f64], lon: &[f64], at: usize, stop: Option<Point>) -> Marked
     requires { length (line_of lat.now lon.now) ≤ 4294967295 }
     ensures { result ≡ marked_of (line_of lat.now lon.now) at stop }
 {
@@ -23,11 +23,11 @@ pub(crate) fn mark(lat: &[f64], lon: &[f64], at: usize, stop: Position) -> Marke
     let next = passed.cursor;
     let vertex = passed.vertex;
     match vertex {
-        Found::At(k) => Marked {
+        Some(k) => Marked {
             at: next.at,
             word: k as u32,
         },
-        Found::Nothing => Marked {
+        None => Marked {
             at: next.at,
             word: 4294967295,
         },

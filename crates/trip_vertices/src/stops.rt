@@ -7,7 +7,6 @@ ghost use Rattle.trip_vertices.specs.Vertices.{vertex_words};
 ghost use Rattle.trip_vertices.specs.Written.{found_vertices, room_answer, room_output};
 
 use crate::mark::mark;
-use ids::Found;
 use line_answers::Projected;
 use tables::{StopTimes, Stops, Tables};
 use trip_rows::{row_position, shape_column, trip_span};
@@ -30,10 +29,8 @@ fn fill(
     ensures { out.new ≡ vertex_words (line_of lat.now lon.now) (row_position bytes.now words.now reals.now stops calls) first n ++ drop n out.old }
 {
     let from = first as usize;
-    let rows = n as usize;
     let mut at = 0;
-    let mut k = 0;
-    while k < rows {
+    for k in 0..n as usize {
         let marked = mark(
             lat,
             lon,
@@ -42,7 +39,6 @@ fn fill(
         );
         out[k] = marked.word;
         at = marked.at;
-        k += 1;
     }
 }
 
@@ -52,13 +48,13 @@ pub fn write(
     words: &[u32],
     reals: &[f64],
     t: Tables,
-    found: Found,
+    found: Option<usize>,
     out: &mut [u32],
 ) -> Projected
     ensures result_value { project_answer result ≡ room_answer (found_vertices bytes.now words.now reals.now t found) out.old }
     ensures out_after { out.new ≡ room_output (found_vertices bytes.now words.now reals.now t found) out.old }
 {
-    let Found::At(trip) = found else {
+    let Some(trip) = found else {
         return Projected::Rows(0);
     };
     let stops = t.stops;

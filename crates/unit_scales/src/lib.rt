@@ -6,5 +6,5 @@
 mod metres; // the metres of a distance, from two of them
 mod scale; // the metres of a unit of distance
 
-pub use metres::{Affine, Calibrated, between};
+pub use metres::{Affine, between};
 pub use scale::snap_unit_scale;

@@ -12,14 +12,8 @@ pub struct Affine {
     pub b: f64,
 }
 
-// What two samples tell.
-#[derive(Clone, Copy)]
-pub enum Calibrated {
-    By(Affine),
-    Nothing,
-}
-
 // Whether two numbers are less than `least` apart; NaN is not.
+#[tactic(auto, unfolding(crate::specs::Metres::too_near))]
 fn too_near(x: f64, y: f64, least: f64) -> bool
     ensures { result ≡ too_near x y least }
 {
@@ -30,31 +24,28 @@ fn too_near(x: f64, y: f64, least: f64) -> bool
 fn is_scale(b: f64) -> bool
     ensures { result ≡ is_scale b }
 {
-    if b > 0.0 {
-        return b < 1.0 / 0.0;
-    }
-    false
+    b > 0.0 && b < f64::INFINITY
 }
 
 // With a scale b: the distance d is at m metres.
-fn scaled(b: f64, d: f64, m: f64) -> Calibrated
+#[tactic(auto, unfolding(crate::specs::Metres::scaled))]
+fn scaled(b: f64, d: f64, m: f64) -> Option<Affine>
     ensures { result ≡ scaled b d m }
 {
     if is_scale(b) {
-        return Calibrated::By(Affine { a: m - b * d, b });
+        Some(Affine { a: m - b * d, b })
+    } else {
+        None
     }
-    Calibrated::Nothing
 }
 
 // From two distances and their metres.
-pub fn between(d0: f64, m0: f64, d1: f64, m1: f64) -> Calibrated
+pub fn between(d0: f64, m0: f64, d1: f64, m1: f64) -> Option<Affine>
     ensures { result ≡ affine_between d0 m0 d1 m1 }
 {
-    if too_near(d0, d1, 1e-9) {
-        return Calibrated::Nothing;
+    if too_near(d0, d1, 1e-9) || too_near(m0, m1, 1.0) {
+        None
+    } else {
+        scaled(snap_unit_scale((m1 - m0) / (d1 - d0)), d0, m0)
     }
-    if too_near(m0, m1, 1.0) {
-        return Calibrated::Nothing;
-    }
-    scaled(snap_unit_scale((m1 - m0) / (d1 - d0)), d0, m0)
 }

@@ -8,27 +8,17 @@ use ieee::abs;
 fn near_unit(ratio: f64, unit: f64) -> bool
     ensures { result ≡ near_unit ratio unit }
 {
-    if ratio > 0.0 {
-        return abs(ratio / unit - 1.0) <= 0.25;
-    }
-    false
+    ratio > 0.0 && abs(ratio / unit - 1.0) <= 0.25
 }
 
 // The first of metre, kilometre, foot and mile that the ratio is near, and else the ratio itself.
 pub fn snap_unit_scale(ratio: f64) -> f64
     ensures { result ≡ snap_unit_scale ratio }
 {
-    if near_unit(ratio, 1.0) {
-        return 1.0;
-    }
-    if near_unit(ratio, 1000.0) {
-        return 1000.0;
-    }
-    if near_unit(ratio, 0.3048) {
-        return 0.3048;
-    }
-    if near_unit(ratio, 1609.344) {
-        return 1609.344;
+    for unit in [1.0, 1000.0, 0.3048, 1609.344] {
+        if near_unit(ratio, unit) {
+            return unit;
+        }
     }
     ratio
 }

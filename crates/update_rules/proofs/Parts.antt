@@ -1,17 +1,17 @@
 -- What is so of the updates and of the sailing where no cause of it is there. A number after `at` is a cause's place in the part's list.
--- `Rattle.refusals.proofs.Facts` has what each kind of fact says, and `counted` for the part's columns and counts.
+-- `Rattle.verdicts.proofs.Facts` has what each kind of fact says, and `counted` for the part's columns and counts.
 use Prim.Native.Nat.{ℕ, ◌<◌}
 use mathlib.Core.Bool.{false}
 use lib.IntN.{pos, negsuc}
 use lib.ListN.{drop}
 use Rattle.ids.specs.Pool.{cell_of}
 use Rattle.tables.specs.Pools.{Pools}
-use Rattle.refusals.specs.Refuse.{always, where_set}
+use Rattle.tables.specs.Marks.{always, where_set}
 use Rattle.tables.specs.declared.bounds.Bounds.{Bounds}
 use Rattle.tables.specs.declared.lent.Sailing.{Sailing}
 use Rattle.tables.specs.declared.lent.Updates.{Updates}
-use Rattle.refusals.proofs.Passed.{Clear, clear_drop, clear_part}
-use Rattle.refusals.proofs.Facts.{Between, moments, offsets, by_number, IdsHold, ids_hold}
+use Rattle.verdicts.proofs.Passed.{Clear, clear_drop, clear_part}
+use Rattle.verdicts.proofs.Facts.{Between, moments, offsets, by_number, IdsHold, ids_hold}
 use Rattle.update_rules.specs.Parts.{updates_causes, arrivals_causes, update_departures_causes, sailing_causes}
 
 module _ (p : Pools) where

@@ -20,10 +20,8 @@ fn fill(
     requires { length rows.now ≤ length out.old }
     ensures { out.new ≡ map (moment_or bytes.now times.now has own other) rows.now ++ drop (length rows.now) out.old }
 {
-    let mut k = 0;
-    while k < rows.len() {
-        out[k] = moment_or(bytes, times, has, own, other, rows[k] as usize);
-        k += 1;
+    for (k, row) in rows.iter().enumerate() {
+        out[k] = moment_or(bytes, times, has, own, other, *row as usize);
     }
 }
 

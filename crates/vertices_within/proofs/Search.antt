@@ -1,4 +1,5 @@
 -- Searches over the distances from a stop: what each turn of a loop over a line does. Assumes nothing.
+use Rattle.std.specs.Prelude.{Some, None}
 use Prim.Native.Nat.{ℕ, zero, suc, ◌+◌, ◌-◌, ◌<◌, ◌≤◌, min}
 use native.Mathlib.Omega.{arith}
 use native.Mathlib.Numerals.{add-one}
@@ -11,7 +12,6 @@ use lib.Ieee.{Float, le}
 use lib.ListN.{length, drop, get_or, drop_of_length-le}
 use lib.Seq.{drop-cons}
 use borrow.Author.Tests.{ltb-true, ltb-false}
-use Rattle.ids.specs.declared.lookup.Found.TheVariants.{At, Nothing}
 use Rattle.ids.proofs.ByteOrder.{split}
 use Rattle.ieee.specs.Number.{least_of}
 use Rattle.lengths.specs.Line.{metres_of, nowhere}
@@ -38,7 +38,7 @@ module _ (stop : Point) (line : List Point) where
 
   module _ (most : Float) where
     -- the first that is small enough
-    pub first_hit : (k : ℕ) → k < length line → le (metres_of stop (get_or line k nowhere)) most ≡ true → first_within most k (distances_of stop (drop k line)) ≡ At k
+    pub first_hit : (k : ℕ) → k < length line → le (metres_of stop (get_or line k nowhere)) most ≡ true → first_within most k (distances_of stop (drop k line)) ≡ Some k
     unfolding first_within
     first_hit k h t = rw (from_vertex k h, t)
 
@@ -47,7 +47,7 @@ module _ (stop : Point) (line : List Point) where
     unfolding first_within
     first_miss k h f = rw (add-one, from_vertex k h, f)
 
-    pub first_over : (k : ℕ) → length line ≤ k → first_within most k (distances_of stop (drop k line)) ≡ Nothing
+    pub first_over : (k : ℕ) → length line ≤ k → first_within most k (distances_of stop (drop k line)) ≡ None
     unfolding first_within
     first_over k h = rw (past_all k h)
 
@@ -65,7 +65,7 @@ module _ (stop : Point) (line : List Point) where
 
     -- the last: none from vertex k on is small enough
     abbrev pub NoneFrom : ℕ → Type 0
-    NoneFrom k = last_within most k (distances_of stop (drop k line)) ≡ Nothing
+    NoneFrom k = last_within most k (distances_of stop (drop k line)) ≡ None
 
     pub none_past : (k : ℕ) → length line ≤ k → NoneFrom k
     unfolding last_within
@@ -75,19 +75,19 @@ module _ (stop : Point) (line : List Point) where
     unfolding last_within
     none_before k a h n f = let e : suc (k - 1) ≡ k = omega arith in rw (from_vertex (k - 1) (omega arith), e, n, f)
 
-    last_here : (k : ℕ) → k < length line → NoneFrom (suc k) → le (metres_of stop (get_or line k nowhere)) most ≡ true → last_within most k (distances_of stop (drop k line)) ≡ At k
+    last_here : (k : ℕ) → k < length line → NoneFrom (suc k) → le (metres_of stop (get_or line k nowhere)) most ≡ true → last_within most k (distances_of stop (drop k line)) ≡ Some k
     unfolding last_within
     last_here k h n t = rw (from_vertex k h, n, t)
 
     -- what is the last from a vertex on is so from any vertex before it
-    last_before : (from d k j : ℕ) → from + d ≡ k → k < length line → last_within most k (distances_of stop (drop k line)) ≡ At j →
-        last_within most from (distances_of stop (drop from line)) ≡ At j
+    last_before : (from d k j : ℕ) → from + d ≡ k → k < length line → last_within most k (distances_of stop (drop k line)) ≡ Some j →
+        last_within most from (distances_of stop (drop from line)) ≡ Some j
     unfolding last_within
     last_before from zero k j e h l = let q : from ≡ k = omega arith in rw q l
     last_before from (suc d) k j e h l = rw (from_vertex from (omega arith), last_before (suc from) d k j (omega arith) h l)
 
     pub last_hit : (from k : ℕ) → from < k → k ≤ length line → NoneFrom k → le (metres_of stop (get_or line (k - 1) nowhere)) most ≡ true →
-        last_within most from (distances_of stop (drop from line)) ≡ At (k - 1)
+        last_within most from (distances_of stop (drop from line)) ≡ Some (k - 1)
     last_hit from k a h n t =
         let e : suc (k - 1) ≡ k = omega arith in
         last_before from (k - 1 - from) (k - 1) (k - 1) (omega arith) (omega arith) (last_here (k - 1) (omega arith) (rw e n) t)

@@ -1,10 +1,8 @@
 -- Distances from a stop to the points of a line, in metres. A list of them is numbered from the vertex that its first is of. Definitions only.
-use Rattle.std.specs.Prelude.{ℕ, suc, false, cond, Float, get_or}
+use Rattle.std.specs.Prelude.{ℕ, suc, false, cond, Float, get_or, Option, Some, None}
 use mathlib.Core.List.{List, [], ◌∷◌, foldl}
 use Rattle.std.specs.Float.{inf}
 use Rattle.std.specs.Float.Ieee.{le}
-use Rattle.ids.specs.declared.lookup.Found.{Found}
-use Rattle.ids.specs.declared.lookup.Found.TheVariants.{At, Nothing}
 use Rattle.ieee.specs.Number.{least_of}
 use Rattle.lengths.specs.Line.{metres_of, nowhere}
 use Rattle.sphere_lengths.specs.Length.{haversin_of}
@@ -28,16 +26,16 @@ unfoldable pub least_in : List Float → Float
 least_in ds = foldl least_of (inf false) ds
 
 -- the first that is at most `most`, numbered from k
-unfoldable pub first_within : Float → ℕ → List Float → Found
-first_within most k [] = Nothing
-first_within most k (d ∷ ds) = cond (le d most) (At k) (first_within most (suc k) ds)
+unfoldable pub first_within : Float → ℕ → List Float → Option ℕ
+first_within most k [] = None
+first_within most k (d ∷ ds) = cond (le d most) (Some k) (first_within most (suc k) ds)
 
 -- the first of two that is there
-abbrev pub or_else : Found → Found → Found
-or_else (At k) other = At k
-or_else Nothing other = other
+abbrev pub or_else : Option ℕ → Option ℕ → Option ℕ
+or_else (Some k) other = Some k
+or_else None other = other
 
 -- the last that is at most `most`, numbered from k
-unfoldable pub last_within : Float → ℕ → List Float → Found
-last_within most k [] = Nothing
-last_within most k (d ∷ ds) = or_else (last_within most (suc k) ds) (cond (le d most) (At k) Nothing)
+unfoldable pub last_within : Float → ℕ → List Float → Option ℕ
+last_within most k [] = None
+last_within most k (d ∷ ds) = or_else (last_within most (suc k) ds) (cond (le d most) (Some k) None)

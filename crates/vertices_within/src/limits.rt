@@ -8,8 +8,5 @@ use reach::limit;
 pub fn far(most: f64, left: usize) -> f64
     ensures { Beyond most result }
 {
-    if left < 3 {
-        return 1.0 / 0.0;
-    }
-    limit(most)
+    if left < 3 { f64::INFINITY } else { limit(most) }
 }

@@ -8,7 +8,6 @@ ghost use Rattle.sphere_lengths.specs.Length.{way_of};
 ghost use Rattle.reach.specs.Reach.{Beyond};
 ghost use Rattle.vertices_within.specs.Near.{aside_of, distances_of, first_within, last_within};
 
-use ids::Found;
 use lengths::{Point, vertex, vertices};
 use maths::{cos, radians};
 use reach::{is_beyond, limit};
@@ -29,41 +28,33 @@ fn is_within(far: f64, most: f64, a: f64) -> bool
     requires { Beyond most far }
     ensures { result ≡ le (way_of a) most }
 {
-    if is_beyond(far, a) {
-        return false;
-    }
-    way(a) <= most
+    !is_beyond(far, a) && way(a) <= most
 }
 
 // The first vertex that is no farther than `most`.
-pub fn first_within(lat: &[f64], lon: &[f64], stop: Point, from: usize, most: f64) -> Found
+pub fn first_within(lat: &[f64], lon: &[f64], stop: Point, from: usize, most: f64) -> Option<usize>
     ensures { result ≡ first_within most from (distances_of stop (drop from (line_of lat.now lon.now))) }
 {
-    let n = vertices(lat, lon);
     let c = cos(radians(stop.lat));
     let far = limit(most);
-    let mut k = from;
-    while k < n {
+    for k in from..vertices(lat, lon) {
         if is_within(far, most, aside(lat, lon, stop, c, k)) {
-            return Found::At(k);
+            return Some(k);
         }
-        k += 1;
     }
-    Found::Nothing
+    None
 }
 
 // The last.
-pub fn last_within(lat: &[f64], lon: &[f64], stop: Point, from: usize, most: f64) -> Found
+pub fn last_within(lat: &[f64], lon: &[f64], stop: Point, from: usize, most: f64) -> Option<usize>
     ensures { result ≡ last_within most from (distances_of stop (drop from (line_of lat.now lon.now))) }
 {
     let c = cos(radians(stop.lat));
     let far = limit(most);
-    let mut k = vertices(lat, lon);
-    while from < k {
-        k -= 1;
+    for k in (from..vertices(lat, lon)).rev() {
         if is_within(far, most, aside(lat, lon, stop, c, k)) {
-            return Found::At(k);
+            return Some(k);
         }
     }
-    Found::Nothing
+    None
 }

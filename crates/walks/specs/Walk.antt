@@ -1,6 +1,5 @@
 -- The walk along a leg's path. Definitions only: `walk_of` of legs on the leg's shape and chain, and what it is on each kind of path.
-use Rattle.std.specs.Prelude.{ℕ, List, [], ◌∷◌, Float}
-use Rattle.ids.specs.declared.lookup.Found.{Found}
+use Rattle.std.specs.Prelude.{ℕ, List, [], ◌∷◌, Float, Option}
 use Rattle.lengths.specs.declared.line.Point.{Point}
 use Rattle.line_parts.specs.Part.{whole_of}
 use Rattle.stretches.specs.Drawing.{draw_of}
@@ -37,6 +36,6 @@ abbrev pub straight_walk : ℕ → Point → Point → Float → Walked
 straight_walk k from to frac = on_path k Straight (Spot·straight frac) (draw_of (from ∷ to ∷ []) two (Spot·straight frac))
 
 -- at a fraction of the leg that leads to call k
-unfoldable pub leg_walk : List ℕ → List ℕ → List Float → Course → ℕ → Found → End → End → Path → Float → Walked
+unfoldable pub leg_walk : List ℕ → List ℕ → List Float → Course → ℕ → Option ℕ → End → End → Path → Float → Walked
 leg_walk bytes words reals c k trip from to path frac =
     walk_of k (leg_shape bytes words reals c trip) (leg_stops bytes words reals c trip from to) from.at to.at path frac

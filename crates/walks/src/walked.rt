@@ -9,7 +9,6 @@ use by_distance::spot_over;
 use chain_stretches::on_two;
 use chains::chain_walk;
 use courses::Course;
-use ids::Found;
 use leg_paths::{leg_rows, leg_span};
 use legs::{Walked, at_end, at_start, on_path};
 use lengths::Point;
@@ -57,7 +56,7 @@ fn chain_walked(
     reals: &[f64],
     c: Course,
     leg: u32,
-    trip: Found,
+    trip: Option<usize>,
     from: End,
     to: End,
     route: Route,
@@ -90,7 +89,7 @@ fn inside_leg(
     reals: &[f64],
     c: Course,
     leg: u32,
-    trip: Found,
+    trip: Option<usize>,
     from: End,
     to: End,
     path: Path,
@@ -121,7 +120,7 @@ pub fn walk(
     reals: &[f64],
     c: Course,
     leg: u32,
-    trip: Found,
+    trip: Option<usize>,
     from: End,
     to: End,
     path: Path,

@@ -1,4 +1,5 @@
 -- Document 01's case meets every hypothesis of demand 3, and its places at 100 and at 250 differ: by computing the definitions.
+use Rattle.std.specs.Prelude.{Option, Some, None}
 use Prim.Native.Nat.{ℕ, zero, suc, ◌+◌, ◌<◌, ◌≤◌}
 use native.Mathlib.Omega.{arith}
 use mathlib.Core.Path.{◌≡◌, refl}
@@ -9,10 +10,8 @@ use Rattle.ids.specs.Cmp.{cmp, equal}
 use Rattle.ids.specs.First.{first}
 use Rattle.ids.specs.Pool.{id_of}
 use Rattle.ids.specs.Rows.{row_of}
-use Rattle.ids.specs.declared.lookup.Found.{Found}
-use Rattle.ids.specs.declared.lookup.Found.TheVariants.{At, Nothing}
 use Rattle.ids.proofs.ByteOrder.{clash}
-use Rattle.measure.specs.Answer.{given}
+use Rattle.refusals.specs.Answer.{given}
 use Rattle.globe.specs.Globe.{on_globe, within}
 use Rattle.columns.specs.Number.{reaches_at, ends_past_at, beyond, outside_at}
 use Rattle.column_floats.specs.Real.{off_globe_at}
@@ -22,7 +21,7 @@ use Rattle.column_order.specs.Order.{parts_of, cmp_parts, cmp_rows, out_of_order
 use Rattle.tables.specs.Pools.{Pools}
 use Rattle.tables.specs.Bounds.{chart_bounds}
 use Rattle.faults.specs.Fault.{fails_of}
-use Rattle.refusals.specs.Refuse.{refusal_of, least_of, joined}
+use Rattle.verdicts.specs.Refuse.{refusal_of, least_of, joined}
 use Rattle.tables.specs.declared.lent.Tables.{Tables}
 use Rattle.geometry_checks.specs.Operations.{geometry_causes}
 use Rattle.checks.specs.Operations.{estimate_causes, trip_lookup_causes, calendar_tables_causes}
@@ -61,24 +60,24 @@ unfolding estimate_causes geometry_causes trip_lookup_causes calendar_tables_cau
 accepted_later = refl
 
 -- the case has no static trip, so none is matched
-no_trip : (p : Pools) → refusal_of p (estimate_causes chart_bounds case_tables) ≡ 0 → sailing_trip p.bytes p.words p.times case_tables ≡ Nothing
+no_trip : (p : Pools) → refusal_of p (estimate_causes chart_bounds case_tables) ≡ 0 → sailing_trip p.bytes p.words p.times case_tables ≡ None
 no_trip p e = go (sailing_trip p.bytes p.words p.times case_tables) refl
   where
-    go : (trip : Found) → sailing_trip p.bytes p.words p.times case_tables ≡ trip → trip ≡ Nothing
-    go (At k) f = absurd (omega (arith, sailing_trip_is p case_tables e k f))
-    go Nothing f = refl
+    go : (trip : Option ℕ) → sailing_trip p.bytes p.words p.times case_tables ≡ trip → trip ≡ None
+    go (Some k) f = absurd (omega (arith, sailing_trip_is p case_tables e k f))
+    go None f = refl
 
 -- a leg of no trip is straight, and none leads to the first call
 module _ (bytes words : List ℕ) (reals dists : List Float) (t : Tables) where
-  straight_granted : (trip : Found) → trip ≡ Nothing → (from to : End) → GrantedLeg (leg_between bytes words reals dists t trip from to)
+  straight_granted : (trip : Option ℕ) → trip ≡ None → (from to : End) → GrantedLeg (leg_between bytes words reals dists t trip from to)
   unfolding leg_between
-  straight_granted (At k) e from to = clash (cc)
-  straight_granted Nothing e from to = record { lengths = tt; distances = tt }
+  straight_granted (Some k) e from to = clash (cc)
+  straight_granted None e from to = record { lengths = tt; distances = tt }
 
-  approach_granted : (trip : Found) → trip ≡ Nothing → (to : End) (stop : ℕ) → GrantedApproach (approach_to bytes words reals dists t trip to stop)
+  approach_granted : (trip : Option ℕ) → trip ≡ None → (to : End) (stop : ℕ) → GrantedApproach (approach_to bytes words reals dists t trip to stop)
   unfolding approach_to
-  approach_granted (At k) e to stop = clash (cc)
-  approach_granted Nothing e to stop = tt
+  approach_granted (Some k) e to stop = clash (cc)
+  approach_granted None e to stop = tt
 
 -- the calls
 module _ (clock : ℕ) where
@@ -119,15 +118,15 @@ lent = record { now = case_tables.sailing.now; tables = refl; bytes = refl; word
 
 -- the voyage at either clock
 voyage : (clock : ℕ) → refusal_of (case_at clock) (estimate_causes chart_bounds case_tables) ≡ 0 →
-    voyage_of (case_at clock) case_tables ≡ voyage_from (case_at clock) case_tables Nothing (0 ∷ 1 ∷ []) (0 ∷ 1 ∷ []) (100 ∷ 400 ∷ []) (100 ∷ 400 ∷ [])
+    voyage_of (case_at clock) case_tables ≡ voyage_from (case_at clock) case_tables None (0 ∷ 1 ∷ []) (0 ∷ 1 ∷ []) (100 ∷ 400 ∷ []) (100 ∷ 400 ∷ [])
 unfolding voyage_of
 voyage clock e = rw (no_trip (case_at clock) e, stops clock, rows clock, arrivals clock, departures clock) refl
 
-at_hundred_lem : outcome_at (voyage_from (case_at 100) case_tables Nothing (0 ∷ 1 ∷ []) (0 ∷ 1 ∷ []) (100 ∷ 400 ∷ []) (100 ∷ 400 ∷ [])) 100 ≡ at_hundred
+at_hundred_lem : outcome_at (voyage_from (case_at 100) case_tables None (0 ∷ 1 ∷ []) (0 ∷ 1 ∷ []) (100 ∷ 400 ∷ []) (100 ∷ 400 ∷ [])) 100 ≡ at_hundred
 unfolding outcome_at voyage_from is_set bit_of turn_of first during at_stop stop_point
 at_hundred_lem = refl
 
-at_two_hundred_fifty_lem : outcome_at (voyage_from (case_at 250) case_tables Nothing (0 ∷ 1 ∷ []) (0 ∷ 1 ∷ []) (100 ∷ 400 ∷ []) (100 ∷ 400 ∷ [])) 250 ≡ at_two_hundred_fifty
+at_two_hundred_fifty_lem : outcome_at (voyage_from (case_at 250) case_tables None (0 ∷ 1 ∷ []) (0 ∷ 1 ∷ []) (100 ∷ 400 ∷ []) (100 ∷ 400 ∷ [])) 250 ≡ at_two_hundred_fifty
 unfolding outcome_at voyage_from leg_between is_set bit_of turn_of first during under_way_at walk_of leg_fraction clamp01_of stop_point between_of le add sub mul div of_int
 at_two_hundred_fifty_lem = rw bearing_is refl
 

@@ -6,7 +6,7 @@ use Rattle.ids.specs.declared.pool.IdColumn.{IdColumn}
 use Rattle.ids.specs.declared.pool.Span.{Span}
 use Rattle.tables.specs.Pools.{Pools, pools}
 use Rattle.tables.specs.declared.lent.Tables.{Tables}
-use Rattle.measure.specs.Answer.{given}
+use Rattle.refusals.specs.Answer.{given}
 use Rattle.ways.specs.declared.way.Way.TheVariants.{With}
 use Rattle.paths.specs.declared.path.Line.TheVariants.{Straight}
 use Rattle.legs.specs.declared.place.Place.TheVariants.{Call, Stretch}

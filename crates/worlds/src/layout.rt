@@ -1,6 +1,6 @@
 // The bounds and tables, from the words that lay them out: seven bounds, the lengths of the five pools, then a
 // first place and a count for each column, in the order of the structs of crate tables; a column of ids has two.
-ghost use Rattle.std.specs.Prelude.{◌<◌};
+ghost use Rattle.std.specs.Prelude.{◌≡◌, ◌+◌, ◌*◌, ◌<◌, get_or};
 
 use ids::{IdColumn, Span, word};
 use tables::{
@@ -23,11 +23,10 @@ pub fn bounds(words: &[u32]) -> Bounds {
 }
 
 fn bound(words: &[u32], k: usize, chart: u32) -> u32 {
-    let set = word(words, k);
-    if set == 0 {
-        return chart;
+    match word(words, k) {
+        0 => chart,
+        set => set,
     }
-    set
 }
 
 // The whole of pool k, of which the world has so much.
@@ -40,9 +39,10 @@ pub fn pool(words: &[u32], k: usize) -> Span
     }
 }
 
-// Column k.
-fn span(words: &[u32], k: usize) -> Span
+/// Column k.
+pub fn span(words: &[u32], k: usize) -> Span
     requires { k < 128 }
+    ensures { result ≡ record { at = get_or words.now (12 + 2 * k) 0; n = get_or words.now (13 + 2 * k) 0 } }
 {
     Span {
         at: word(words, 12 + 2 * k),
@@ -128,8 +128,11 @@ fn shapes(words: &[u32]) -> Shapes {
     }
 }
 
-fn points(words: &[u32], k: usize) -> Points
+/// Points, whose latitudes are column k, and whose longitudes are the next.
+pub fn points(words: &[u32], k: usize) -> Points
     requires { k < 127 }
+    ensures lat { result.lat ≡ record { at = get_or words.now (12 + 2 * k) 0; n = get_or words.now (13 + 2 * k) 0 } }
+    ensures lon { result.lon ≡ record { at = get_or words.now (14 + 2 * k) 0; n = get_or words.now (15 + 2 * k) 0 } }
 {
     Points {
         lat: span(words, k),

@@ -1,7 +1,7 @@
 -- `exports_backfill::zebumorn_backfill_trip` meets its contract: backfill's answer, told.
 use borrow.Author.Rules.{rules}
 use mathlib.Core.Path.{ap, ◌∙◌}
-use Rattle.measure.specs.Answer.{number_of}
+use Rattle.refusals.specs.Answer.{number_of}
 use Rattle.exports_backfill.proofs.zebumorn_backfill_trip.Goals as goal
 
 pub returns : goal.returns

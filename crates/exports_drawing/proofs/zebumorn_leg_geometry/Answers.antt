@@ -1,7 +1,7 @@
 -- `exports_drawing::zebumorn_leg_geometry` meets its contract: the operation's answer, told.
 use borrow.Author.Rules.{rules}
 use mathlib.Core.Path.{ap, ◌∙◌}
-use Rattle.measure.specs.Answer.{number_of, value_or}
+use Rattle.refusals.specs.Answer.{number_of, value_or}
 use Rattle.exports_drawing.proofs.zebumorn_leg_geometry.Goals as goal
 
 pub returns : goal.returns

@@ -2,8 +2,9 @@ use borrow.Author.Rules.{rules}
 use mathlib.Core.Path.{◌≡◌, ◌∙◌}
 use mathlib.Core.List.{[]}
 use Rattle.tables.specs.Pools.{pools}
-use Rattle.refusals.specs.Refuse.{refusal_of}
-use Rattle.refusals.proofs.Folds.{over, then}
+use Rattle.verdicts.specs.Refuse.{refusal_of}
+use Rattle.verdicts.specs.Verdict.{least}
+use Rattle.verdicts.proofs.Folds.{over, then}
 use Rattle.record_refusals.specs.Verdict.{lent_causes}
 use Rattle.record_refusals.proofs.check_lent.Goals as goal
 
@@ -11,8 +12,8 @@ pub returns : goal.returns
 unfolding lent_causes
 returns c =
     let s = c.args in
-    let e : c.points_within.result ≡ refusal_of (pools s.bytes.now s.words.now [] s.reals.now []) (lent_causes c.chart-b.result s.l) =
-    then _ _ _ _ _ _ c.stops-best1.ensures
-    (then _ _ _ _ _ _ c.points_within.ensures
+    let e : least c.points_within-line.result ≡ refusal_of (pools s.bytes.now s.words.now [] s.reals.now []) (lent_causes c.chart-b.result s.l) =
+    then _ _ _ _ _ _ (rw c.new.ensures at c.stops-stops.ensures)
+    (then _ _ _ _ _ _ c.points_within-line.ensures
     (over _ _)) in
-    e ∙ rw c.chart-b.ensures
+    c.number_or_zero.ensures ∙ c.finish.ensures ∙ e ∙ rw c.chart-b.ensures

@@ -1,17 +1,7 @@
-use mathlib.Core.Path.{◌≡◌, ap, ◌∙◌}
-use Prim.Native.Nat.{ℕ, ◌+◌, ◌-◌, ◌≤◌, ◌<◌}
-use native.Mathlib.Omega.{arith}
-use borrow.Author.Rules.{rules}
-use lib.ListN.{length, get_or, set}
-use lib.Ieee.{nan}
-use Rattle.stop_record.specs.Record.{none}
-use Rattle.records.specs.Records.{fill_row, stop_col, dist_col, known_col}
-use Rattle.records.specs.Rows.{each, map_to}
-use Rattle.records.proofs.Lists.{set_next, map_to_all, length-map_to, get_or-map_to}
+use Rattle.std.proofs.Common.{◌≡◌}
+use Rattle.records.specs.Records.{fill_row}
+use Rattle.records.specs.Rows.{map_to}
 use Rattle.records.proofs.fill.Given as goal
 
 abbrev pub invariant-loop-i : goal.invariant-loop-i
-invariant-loop-i l = record { in_range : l.i ≤ length l.fn.r; rows : l.r ≡ map_to (fill_row l.dists l.known) l.i l.fn.r }
-
-abbrev pub decreases-loop-i : goal.decreases-loop-i
-decreases-loop-i l = length l.initial.r - l.i
+invariant-loop-i l = l.r ≡ map_to (fill_row l.dists l.known) l.i l.fn.r

@@ -24,4 +24,4 @@ pub backfill_rows-requires : goal.backfill_rows-requires
 backfill_rows-requires c = record { n_value = sym (length-take-le _ c.args.dists.now c.requires.1); n_value_2 = sym (length-take-le _ c.args.known.now c.requires.2) }
 
 pub returns : goal.returns
-returns c = core_is _ _ _ _ _ _ _ c.reals_of.ensures c.reals_of-2.ensures c.backfill_rows.ensures.dist_after c.backfill_rows.ensures.measured_after
+returns c = core_is _ _ _ _ _ _ _ c.cut.ensures c.cut-2.ensures c.backfill_rows.ensures.dist_after c.backfill_rows.ensures.measured_after

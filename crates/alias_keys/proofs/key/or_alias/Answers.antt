@@ -3,14 +3,14 @@ use mathlib.Core.Path.{◌∙◌, sym}
 use Rattle.alias_keys.specs.Aliases.{alias_trip}
 use Rattle.alias_keys.proofs.key.or_alias.Goals as goal
 
-pub returns-in-At : goal.returns-in-At
+pub returns-in-Some : goal.returns-in-Some
 unfolding alias_trip
-returns-in-At c = rw c.in-At.is
+returns-in-Some c = rw c.in-Some.is
 
-pub returns-in-At-find_joined : goal.returns-in-At-find_joined
+pub returns-in-Some-find_joined : goal.returns-in-Some-find_joined
 unfolding alias_trip
-returns-in-At-find_joined c = rw (c.by_key.ensures, c.id.ensures, c.in-Nothing.is, sym c.find_joined.ensures ∙ c.in-At-find_joined.is)
+returns-in-Some-find_joined c = rw (c.by_key.ensures, c.id.ensures, c.in-None.is, sym c.find_joined.ensures ∙ c.in-Some-find_joined.is)
 
-pub returns-in-Nothing-find_joined : goal.returns-in-Nothing-find_joined
+pub returns-in-None-find_joined : goal.returns-in-None-find_joined
 unfolding alias_trip
-returns-in-Nothing-find_joined c = rw (c.in-Nothing.is, sym c.find_joined.ensures ∙ c.in-Nothing-find_joined.is)
+returns-in-None-find_joined c = rw (c.in-None.is, sym c.find_joined.ensures ∙ c.in-None-find_joined.is)

@@ -1,4 +1,3 @@
-use borrow.Author.Rules.{rules}
 use mathlib.Core.Path.{ap, ◌∙◌}
 use lib.Ieee.{of_bits}
 use Rattle.arcs.specs.Arcs.{atan_of, four_times, halve_of}
@@ -6,4 +5,4 @@ use Rattle.arcs.proofs.arc.atan.Goals as goal
 
 pub returns : goal.returns
 unfolding atan_of of_bits
-returns c = ap four_times (c.halve-s.ensures ∙ ap halve_of c.halve-h.ensures)
+returns c = ap four_times (c.halve-s.ensures ∙ ap halve_of c.halve.ensures)

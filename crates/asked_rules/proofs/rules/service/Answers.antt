@@ -1,10 +1,7 @@
-use Rattle.refusals.proofs.Folds.{first, no_more, several}
+use borrow.Author.Rules.{rules}
+use Rattle.verdicts.specs.Refuse.{least_of}
 use Rattle.asked_rules.proofs.rules.service.Goals as goal
 
 pub returns : goal.returns
-returns c =
-    several _ _ _ _ _ _ c.all_named-best1.ensures
-    (several _ _ _ _ _ _ c.all_named-best2.ensures
-    (first _ _ _ _ _ _ c.tested-best3.ensures
-    (first _ _ _ _ _ _ c.tested.ensures
-    (no_more _ _))))
+unfolding least_of
+returns c = rw (c.test-2.ensures, c.test.ensures, c.test_all_ids-2.ensures, c.test_all_ids.ensures)

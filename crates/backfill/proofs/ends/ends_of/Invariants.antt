@@ -1,17 +1,13 @@
--- `backfill::ends::ends_of` meets its contract. The loop's invariant: what the samples so far and the rest give is what all give.
-use Rattle.std.proofs.Common.{◌≡◌, ◌-◌, ◌≤◌, sym, ◌∙◌, arith, rules}
-use lib.Ieee.{nan}
+-- what the samples so far and the rest give is what all give
+use Rattle.std.proofs.Common.{◌≡◌}
 use Rattle.trip_rows.specs.Rows.{row_position}
 use Rattle.trip_vertices.specs.Vertices.{positions_from}
 use Rattle.row_distances.specs.Rows.{rows_of}
 use Rattle.backfill.specs.Samples.{ends_of, samples_in}
-use Rattle.backfill.proofs.Telling.{added, from_none, one_more, no_more}
+use Rattle.backfill.proofs.Telling.{added}
 use Rattle.backfill.proofs.ends.ends_of.Given as goal
 
 abbrev pub invariant-loop-k : goal.invariant-loop-k
 invariant-loop-k l =
     let position = row_position l.bytes l.words l.reals l.stops l.calls in
-    (l.k ≤ l.n) × (ends_of (samples_in (positions_from position l.first l.n) (rows_of l.dist l.measured)) ≡ added position l.first l.n l.dist l.measured l.ends l.k)
-
-abbrev pub decreases-loop-k : goal.decreases-loop-k
-decreases-loop-k l = l.n - l.k
+    ends_of (samples_in (positions_from position l.first l.n) (rows_of l.dist l.measured)) ≡ added position l.first l.n l.dist l.measured l.ends l.k

@@ -4,12 +4,7 @@ use Rattle.lengths.specs.Line.{line_of}
 use Rattle.calibration.proofs.samples.Rows.{sample_count}
 use Rattle.calibration.proofs.samples.count.Goals as goal
 
-pub returns-then-dist-n : goal.returns-then-dist-n
-returns-then-dist-n c =
-    let a = c.args in
-    omega (arith, c.vertices-n.ensures, sample_count (line_of a.lat.now a.lon.now) a.dist.now)
-
 pub returns : goal.returns
 returns c =
     let a = c.args in
-    omega (arith, c.vertices-n.ensures, sample_count (line_of a.lat.now a.lon.now) a.dist.now)
+    omega (arith, c.vertices.ensures, sample_count (line_of a.lat.now a.lon.now) a.dist.now)

@@ -1,4 +1,3 @@
-use borrow.Author.Rules.{rules}
 use mathlib.Core.Path.{◌∙◌, sym}
 use Rattle.calls.specs.Calls.{update_stop}
 use Rattle.calls.proofs.stop.update_stop.Goals as goal

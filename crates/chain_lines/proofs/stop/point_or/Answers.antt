@@ -2,8 +2,8 @@
 use borrow.Author.Rules.{rules}
 use Rattle.chain_lines.proofs.stop.point_or.Goals as goal
 
-pub returns-in-Known : goal.returns-in-Known
-returns-in-Known c = rw c.in-Known.is
+pub returns-in-Some : goal.returns-in-Some
+returns-in-Some c = rw c.in-Some.is
 
-pub returns-in-Missing : goal.returns-in-Missing
-returns-in-Missing c = rw (c.in-Missing.is, c.no_point.ensures)
+pub returns-in-None : goal.returns-in-None
+returns-in-None c = rw (c.in-None.is, c.no_point.ensures)

@@ -12,6 +12,6 @@ onward-there-requires c = record { marked = c.requires.marked; n_value = c.requi
 pub returns-then-part : goal.returns-then-part
 returns-then-part c = rw (c.on_two.ensures, c.seek-here.ensures.is, c.onward-there.ensures.is) (first_two _ _ c.if-part.true)
 
-pub returns : goal.returns
+pub returns-else-part : goal.returns-else-part
 unfolding of_bits
-returns c = rw c.seek-here.ensures.is (first_alone _ _ c.if-part.false)
+returns-else-part c = rw c.seek-here.ensures.is (first_alone _ _ c.if-part.false)

@@ -10,4 +10,4 @@ seek-there-requires c = record { marked = c.requires.marked; n_value = c.require
 
 pub returns : goal.returns
 unfolding last_of
-returns c = rw (c.on_two.ensures, c.seek-here.ensures.is, c.seek-there.ensures.is, c.less.ensures)
+returns c = rw (c.on_two.ensures, c.seek-here.ensures.is, c.seek-there.ensures.is, c.saturating_sub.ensures)

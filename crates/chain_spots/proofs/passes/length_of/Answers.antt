@@ -1,36 +1,31 @@
-use Prim.Native.Nat.{suc, ◌+◌, ◌-◌, ◌≤◌}
-use native.Mathlib.Omega.{arith}
-use mathlib.Core.Path.{◌≡◌, refl, ap, subst, ◌∙◌}
-use lib.Ieee.{of_bits}
+use Rattle.std.proofs.Common.{◌≡◌, suc, ◌+◌, sym, ap, ◌∙◌, subst, arith}
+use Rattle.std.specs.Float.Ieee.{of_bits}
 use Rattle.line_parts.specs.Part.{length_from, part_length}
-use Rattle.chain_lines.specs.Chain.{stop_of, line_from}
+use Rattle.line_parts.proofs.Sums.{no_sum, sum_next}
 use Rattle.chain_vertices.specs.Vertices.{Stands}
-use Rattle.chain_spots.proofs.Turns.{stretch_is, sum_next}
+use Rattle.chain_spots.proofs.Turns.{stretch_is}
 use Rattle.chain_spots.proofs.passes.length_of.Goals as goal
 
 pub seek-here-requires : goal.seek-here-requires
 seek-here-requires c = record { marked = c.requires.marked; n_value = c.requires.n_value }
 
-pub loop-j-init : goal.loop-j-init
-unfolding of_bits length_from
-loop-j-init c = let first = c.args.part.first in let z : first ≡ first + 0 = omega arith in (omega arith, subst (Stands _ _ _) z c.seek-here.ensures, refl)
-
-pub overflow_add-part : goal.overflow_add-part
-overflow_add-part c = omega (arith, c.less-all.ensures)
+pub loop-k-init : goal.loop-k-init
+unfolding of_bits
+loop-k-init c = record { within = omega arith; stands = c.seek-here.ensures; sum = sym (no_sum _ c.args.part.first) }
 
 pub onward-there-requires : goal.onward-there-requires
-onward-there-requires c = record { marked = c.requires.marked; n_value = c.requires.n_value; stands = c.loop-j.invariant.1 }
+onward-there-requires c = record { marked = c.requires.marked; n_value = c.requires.n_value; stands = c.loop-k.invariant.stands }
 
-pub loop-j-preserved : goal.loop-j-preserved
-loop-j-preserved c =
-    let l = c.loop-j in
-    let first = c.args.part.first in
-    let e : suc (first + l.j) ≡ first + (l.j + 1) = omega arith in (
-      omega arith,
-      subst (Stands _ _ _) e c.onward-there.ensures,
-      sum_next _ _ l.j _ _ l.invariant.2 (stretch_is _ _ _ _ _ _ l.invariant.1 c.onward-there.ensures c.metres-sum.ensures),
-    )
+pub loop-k-preserved : goal.loop-k-preserved
+loop-k-preserved c =
+    let l = c.loop-k in
+    let e : suc l.k ≡ l.k + 1 = omega arith in
+    record {
+      within = omega arith;
+      stands = subst (Stands _ _ _) e c.onward-there.ensures;
+      sum = rw (stretch_is _ _ _ _ _ _ l.invariant.stands c.onward-there.ensures c.metres-sum.ensures, l.invariant.sum) (sym (sum_next _ c.args.part.first l.k l.auto.k));
+    }
 
 pub returns : goal.returns
 unfolding part_length
-returns c = let l = c.loop-j in l.invariant.2 ∙ ap (length_from _ _) (omega (arith, c.less-all.ensures))
+returns c = c.loop-k.invariant.sum ∙ ap (length_from _ _) (omega arith)

@@ -1,51 +1,39 @@
-use Prim.Native.Nat.{suc, ◌+◌, ◌-◌, ◌≤◌}
-use native.Mathlib.Omega.{arith}
-use mathlib.Core.Path.{◌≡◌, refl, sym, ap, subst, ◌∙◌}
-use lib.Ieee.{of_bits}
-use Rattle.line_parts.specs.Part.{length_from}
-use Rattle.first_stretch.specs.Search.{first_met, stretch_at}
-use Rattle.first_stretch.proofs.Turns.{over}
-use Rattle.routes.specs.Route.{nano}
-use Rattle.chain_lines.specs.Chain.{stop_of, line_from}
+use Rattle.std.proofs.Common.{◌≡◌, suc, ◌+◌, sym, ◌∙◌, subst, arith}
+use Rattle.std.specs.Float.Ieee.{of_bits}
+use Rattle.line_parts.proofs.Sums.{no_sum}
+use Rattle.first_stretch.proofs.Turns.{met_of_all, over, summed, found, passed}
 use Rattle.chain_vertices.specs.Vertices.{Stands}
-use Rattle.chain_spots.proofs.Turns.{stretch_is, sum_next, found, passed}
+use Rattle.chain_spots.proofs.Turns.{stretch_is}
 use Rattle.chain_spots.proofs.passes.stretch_of.Goals as goal
 
 pub seek-here-requires : goal.seek-here-requires
 seek-here-requires c = record { marked = c.requires.marked; n_value = c.requires.n_value }
 
-pub loop-j-init : goal.loop-j-init
-unfolding of_bits length_from stretch_at
-loop-j-init c =
-    let first = c.args.part.first in
-    let z : first ≡ first + 0 = omega arith in
-    (omega arith, subst (Stands _ _ _) z c.seek-here.ensures, refl, ap (first_met _ _ _ _ 0) (omega (arith, c.less-all.ensures)))
-
-pub overflow_add-part : goal.overflow_add-part
-overflow_add-part c = omega (arith, c.less-all.ensures)
+pub loop-k-init : goal.loop-k-init
+unfolding of_bits
+loop-k-init c = record { stands = c.seek-here.ensures; sum = sym (no_sum _ c.args.part.first); met = met_of_all _ c.args.part _ _ }
 
 pub onward-there-requires : goal.onward-there-requires
-onward-there-requires c = record { marked = c.requires.marked; n_value = c.requires.n_value; stands = c.loop-j.invariant.1 }
-
-pub overflow_add-result : goal.overflow_add-result
-overflow_add-result c = omega (arith, c.less-all.ensures)
+onward-there-requires c = record { marked = c.requires.marked; n_value = c.requires.n_value; stands = c.loop-k.invariant.stands }
 
 pub returns-then-met : goal.returns-then-met
 returns-then-met c =
-    let l = c.loop-j in
-    found _ _ _ _ _ _ l.j _ _ (omega arith) l.invariant.2 (stretch_is _ _ _ _ _ _ l.invariant.1 c.onward-there.ensures c.metres.ensures) l.invariant.3 c.met.ensures c.if-met.true c.fraction.ensures
+    let l = c.loop-k in
+    let i = l.invariant in
+    let d = stretch_is _ _ _ _ _ _ i.stands c.onward-there.ensures c.metres.ensures in
+    found _ c.args.part _ _ l.k l.auto.k c.loop-k-test.true i.sum d c.met.ensures i.met c.if-met.true c.fraction.ensures
 
-pub loop-j-preserved : goal.loop-j-preserved
-loop-j-preserved c =
-    let l = c.loop-j in
-    let first = c.args.part.first in
-    let e : suc (first + l.j) ≡ first + (l.j + 1) = omega arith in
-    let d = stretch_is _ _ _ _ _ _ l.invariant.1 c.onward-there.ensures c.metres.ensures in (
-      omega arith,
-      subst (Stands _ _ _) e c.onward-there.ensures,
-      sum_next _ _ l.j _ _ l.invariant.2 d,
-      passed _ _ _ _ _ _ l.j _ _ (omega arith) l.invariant.2 d l.invariant.3 c.met.ensures c.if-met.false,
-    )
+pub loop-k-preserved : goal.loop-k-preserved
+loop-k-preserved c =
+    let l = c.loop-k in
+    let i = l.invariant in
+    let e : suc l.k ≡ l.k + 1 = omega arith in
+    let d = stretch_is _ _ _ _ _ _ i.stands c.onward-there.ensures c.metres.ensures in
+    record {
+      stands = subst (Stands _ _ _) e c.onward-there.ensures;
+      sum = summed _ c.args.part _ _ l.k l.auto.k c.loop-k-test.true i.sum d c.met.ensures i.met;
+      met = passed _ c.args.part _ _ l.k l.auto.k c.loop-k-test.true i.sum d c.met.ensures i.met c.if-met.false;
+    }
 
 pub returns : goal.returns
-returns c = let l = c.loop-j in sym (l.invariant.3 ∙ over _ _ _ _ l.j _ (omega arith))
+returns c = sym (c.loop-k.invariant.met ∙ over _ c.args.part _ _ c.loop-k.k c.loop-k-test.false)

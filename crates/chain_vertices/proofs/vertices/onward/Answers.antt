@@ -23,10 +23,10 @@ pub stop_of-requires : goal.stop_of-requires
 stop_of-requires c =
     let a = c.args in
     let p = c.requires in
-    rw c.row_of.ensures (of_trip a.chain _ (next_within a.chain _ _ _ p.stands.within (sym c.next.ensures ∙ c.in-At.is)))
+    rw c.row_of.ensures (of_trip a.chain _ (next_within a.chain _ _ _ p.stands.within (sym c.next.ensures ∙ c.in-Some.is)))
 
 pub returns : goal.returns
 returns c =
     let p = c.requires in
     rw (c.point_or.ensures, c.stop_of.ensures, c.row_of.ensures)
-    (goes _ _ _ p.marked _ _ p.stands (omega (arith, p.n_value)) _ (sym c.next.ensures ∙ c.in-At.is))
+    (goes _ _ _ p.marked _ _ p.stands (omega (arith, p.n_value)) _ (sym c.next.ensures ∙ c.in-Some.is))

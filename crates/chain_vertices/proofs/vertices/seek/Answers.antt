@@ -1,25 +1,15 @@
-use Prim.Native.Nat.{suc, ◌+◌, ◌-◌, ◌≤◌}
-use native.Mathlib.Omega.{arith}
-use mathlib.Core.Path.{◌≡◌}
-use Rattle.chain_lines.specs.Chain.{stop_of}
-use Rattle.chain_vertices.specs.Vertices.{Stands}
+use Rattle.std.proofs.Common.{◌≡◌, suc, ◌+◌, arith}
 use Rattle.chain_vertices.proofs.Standing.{beyond}
 use Rattle.chain_vertices.proofs.vertices.seek.Goals as goal
 
 pub returns-then-n-k : goal.returns-then-n-k
 returns-then-n-k c = rw c.no_point.ensures (beyond _ _ c.args.k (omega (arith, c.requires.n_value)))
 
-pub start-here-requires : goal.start-here-requires
-start-here-requires c = c.requires.marked
-
-pub loop-j-init : goal.loop-j-init
-loop-j-init c = (omega arith, c.start-here.ensures)
-
 pub onward-here-requires : goal.onward-here-requires
-onward-here-requires c = record { marked = c.requires.marked; n_value = c.requires.n_value; stands = c.loop-j.invariant.1 }
+onward-here-requires c = record { marked = c.requires.marked; n_value = c.requires.n_value; stands = c.loop-j.invariant }
 
 pub loop-j-preserved : goal.loop-j-preserved
-loop-j-preserved c = let j = c.loop-j.j in let e : suc j ≡ j + 1 = omega arith in (omega arith, rw e at c.onward-here.ensures)
+loop-j-preserved c = let j = c.loop-j.j in let e : suc j ≡ j + 1 = omega arith in rw e at c.onward-here.ensures
 
 pub returns : goal.returns
-returns c = let l = c.loop-j in let e : l.j ≡ c.args.k = omega (arith, l.invariant.0) in rw e at l.invariant.1
+returns c = let l = c.loop-j in let e : l.j ≡ c.args.k = omega arith in rw e at l.invariant

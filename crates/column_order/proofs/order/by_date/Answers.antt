@@ -1,5 +1,4 @@
 -- `column_order::order::by_date` meets its contract. Each return: the first part that differs decides.
-use borrow.Author.Rules.{rules}
 use mathlib.Core.Path.{sym, ◌∙◌}
 use Rattle.column_order.specs.Order.{cmp_rows, parts_of}
 use Rattle.column_order.proofs.Keys.{two_less, two_more, two_same, part_less, part_more, part_same, only_part, same_words}
@@ -9,18 +8,18 @@ pub returns-in-Less : goal.returns-in-Less
 unfolding cmp_rows parts_of
 returns-in-Less c = two_less _ _ _ _ _ _ c.by_ids.ensures c.in-Less.is
 
-pub returns-in-More : goal.returns-in-More
+pub returns-in-Greater : goal.returns-in-Greater
 unfolding cmp_rows parts_of
-returns-in-More c = two_more _ _ _ _ _ _ c.by_ids.ensures c.in-More.is
+returns-in-Greater c = two_more _ _ _ _ _ _ c.by_ids.ensures c.in-Greater.is
 
 pub returns-in-Less-by_word : goal.returns-in-Less-by_word
 unfolding cmp_rows parts_of
-returns-in-Less-by_word c = two_same _ _ _ _ _ _ c.by_ids.ensures c.in-Same.is (part_less _ _ _ _ c.by_word.ensures c.in-Less-by_word.is)
+returns-in-Less-by_word c = two_same _ _ _ _ _ _ c.by_ids.ensures c.in-Equal.is (part_less _ _ _ _ c.by_word.ensures c.in-Less-by_word.is)
 
-pub returns-in-More-by_word : goal.returns-in-More-by_word
+pub returns-in-Greater-by_word : goal.returns-in-Greater-by_word
 unfolding cmp_rows parts_of
-returns-in-More-by_word c = two_same _ _ _ _ _ _ c.by_ids.ensures c.in-Same.is (part_more _ _ _ _ c.by_word.ensures c.in-More-by_word.is)
+returns-in-Greater-by_word c = two_same _ _ _ _ _ _ c.by_ids.ensures c.in-Equal.is (part_more _ _ _ _ c.by_word.ensures c.in-Greater-by_word.is)
 
 pub returns : goal.returns
 unfolding cmp_rows parts_of
-returns c = two_same _ _ _ _ _ _ c.by_ids.ensures c.in-Same.is (part_same _ _ _ _ c.by_word.ensures c.in-Same-by_word.is (c.numbers.ensures ∙ same_words c.bit.ensures c.bit-2.ensures ∙ sym (only_part _ _)))
+returns c = two_same _ _ _ _ _ _ c.by_ids.ensures c.in-Equal.is (part_same _ _ _ _ c.by_word.ensures c.in-Equal-by_word.is (c.numbers.ensures ∙ same_words c.bit.ensures c.bit-2.ensures ∙ sym (only_part _ _)))

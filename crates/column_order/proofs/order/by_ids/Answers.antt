@@ -1,5 +1,4 @@
 -- `column_order::order::by_ids` meets its contract. Each return: the first part that differs decides.
-use borrow.Author.Rules.{rules}
 use mathlib.Core.Path.{sym, ◌∙◌}
 use Rattle.column_order.specs.Order.{cmp_rows, parts_of}
 use Rattle.column_order.proofs.Keys.{part_less, part_more, part_same, only_part}
@@ -9,10 +8,10 @@ pub returns-in-Less : goal.returns-in-Less
 unfolding cmp_rows parts_of
 returns-in-Less c = part_less _ _ _ _ c.by_id.ensures c.in-Less.is
 
-pub returns-in-More : goal.returns-in-More
+pub returns-in-Greater : goal.returns-in-Greater
 unfolding cmp_rows parts_of
-returns-in-More c = part_more _ _ _ _ c.by_id.ensures c.in-More.is
+returns-in-Greater c = part_more _ _ _ _ c.by_id.ensures c.in-Greater.is
 
 pub returns : goal.returns
 unfolding cmp_rows parts_of
-returns c = part_same _ _ _ _ c.by_id.ensures c.in-Same.is (c.by_id-2.ensures ∙ sym (only_part _ _))
+returns c = part_same _ _ _ _ c.by_id.ensures c.in-Equal.is (c.by_id-2.ensures ∙ sym (only_part _ _))

@@ -1,5 +1,4 @@
 -- `column_order::order::compare_rows` meets its contract. Each arm: the key is that of the function called.
-use borrow.Author.Rules.{rules}
 use mathlib.Core.Path.{sym, ◌∙◌}
 use Rattle.column_order.specs.Order.{cmp_rows, parts_of}
 use Rattle.column_order.proofs.Keys.{only_part}

@@ -10,7 +10,7 @@ use lib.Seq.{length-take-le}
 use Rattle.tables.specs.Pools.{pools}
 use Rattle.tables.specs.Bounds.{chart_bounds}
 use Rattle.tables.specs.declared.lent.Tables.{Tables}
-use Rattle.refusals.specs.Refuse.{refusal_of}
+use Rattle.verdicts.specs.Refuse.{refusal_of}
 use Rattle.checks.specs.Operations.{estimate_causes}
 use Rattle.calls.specs.Calls.{reported_of, call_rows}
 use Rattle.calls.proofs.Calls.{stops_count}

@@ -1,6 +1,6 @@
 -- `exports_timetable::trips::zebumorn_match_trip` meets its contract: matching's answer, told.
 use mathlib.Core.Path.{ap, ◌∙◌}
-use Rattle.measure.specs.Answer.{number_of}
+use Rattle.refusals.specs.Answer.{number_of}
 use Rattle.refusal_numbers.specs.Told.{row_or}
 use Rattle.exports_timetable.proofs.trips.zebumorn_match_trip.Goals as goal
 

@@ -1,6 +1,6 @@
 -- `exports_timetable::trips::zebumorn_service_runs` meets its contract: the service's answer, told.
 use mathlib.Core.Path.{ap, ◌∙◌}
-use Rattle.measure.specs.Answer.{number_of}
+use Rattle.refusals.specs.Answer.{number_of}
 use Rattle.refusal_numbers.specs.Told.{runs_or}
 use Rattle.exports_timetable.proofs.trips.zebumorn_service_runs.Goals as goal
 

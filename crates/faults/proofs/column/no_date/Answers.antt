@@ -1,22 +1,14 @@
-use mathlib.Core.Path.{sym, ap, ◌∙◌}
-use mathlib.Core.Bool.{not}
-use borrow.Author.Rules.{rules}
-use Prim.Native.Nat.{◌-◌}
-use lib.ListN.{length}
-use Rattle.columns.proofs.Scan.{Missed, begin, on, hit, over}
+use Rattle.std.proofs.Common.{rules, ◌∙◌, ℕ, Bool, not}
+use borrow.Author.Tests.{tests}
+use Rattle.std.proofs.lemmas.Iterator.{YieldsList-from_slice}
+use Rattle.std.proofs.lemmas.Iterator.Search.{any_from_yields_List}
+use Rattle.columns.proofs.Scan.{any_at}
+use Rattle.days.specs.Days.{is_date}
 use Rattle.faults.specs.Fault.{no_date_at}
 use Rattle.faults.proofs.column.no_date.Goals as goal
 
-pub loop-k-init : goal.loop-k-init
-loop-k-init c = begin
-
-pub returns-then-not-is_date : goal.returns-then-not-is_date
-unfolding no_date_at
-returns-then-not-is_date c = hit _ _ _ c.loop-k-test.true (ap not (sym c.is_date.ensures ∙ c.if-not-is_date.true))
-
-pub loop-k-preserved : goal.loop-k-preserved
-unfolding no_date_at
-loop-k-preserved c = on c.loop-k.invariant (ap not (sym c.is_date.ensures ∙ c.if-not-is_date.false))
-
 pub returns : goal.returns
-returns c = over _ c.loop-k.invariant c.loop-k-test.false
+unfolding no_date_at
+returns c =
+    let at_fault : ℕ → Bool = λ x. not (is_date x) in
+    any_from_yields_List at_fault _ _ c.any.result c.any.ensures.ran (YieldsList-from_slice c.args.s.now cc) (λ x b q k. search (rules, tests)) ∙ any_at at_fault 0 c.args.s.now

@@ -1,17 +1,9 @@
--- `filled_rows::each::fill` meets its contract. The loop's invariant: what is written so far, and the rest filled from the cursor on, are all rows filled.
-use borrow.Author.Rules.{rules}
-use Prim.Native.Nat.{◌-◌}
-use native.Mathlib.Omega.{arith}
-use mathlib.Core.Path.{refl}
-use lib.Ieee.{nan, of_bits}
+-- what is written so far, and the rest filled from the cursor on, are all rows filled
 use Rattle.lengths.specs.Line.{line_of}
 use Rattle.trip_rows.specs.Rows.{row_position}
-use Rattle.filled_rows.proofs.Walking.{Filled, starts, goes_on, ends}
+use Rattle.filled_rows.proofs.Walking.{Filled}
 use Rattle.filled_rows.proofs.each.fill.Given as goal
 
 abbrev pub invariant-loop-k : goal.invariant-loop-k
 invariant-loop-k l =
     Filled (line_of l.lat l.lon) l.unit (row_position l.bytes l.words l.reals l.stops l.calls) l.first l.n l.initial.dist l.initial.measured l.dist l.measured l.at l.sum l.k
-
-abbrev pub decreases-loop-k : goal.decreases-loop-k
-decreases-loop-k l = l.n - l.k

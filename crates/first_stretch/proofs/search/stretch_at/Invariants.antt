@@ -1,24 +1,13 @@
--- `first_stretch::search::stretch_at` meets its contract. The loop's invariant: the sum is the length over j stretches, and the first that is met of all is that from the j-th on.
-use native.Mathlib.Omega.{arith}
-use Prim.Native.Nat.{ℕ, ◌+◌, ◌-◌, ◌<◌, ◌≤◌}
-use mathlib.Core.Bool.{Bool, true, false}
-use mathlib.Core.List.{List}
-use mathlib.Core.Path.{◌≡◌, refl, sym, ap, ◌∙◌}
-use lib.Ieee.{Float, binary64, add, of_bits}
+-- The sum is the length to vertex k, and the first stretch that is met of all is that from vertex k on.
+use Rattle.std.proofs.Common.{◌≡◌, ◌-◌}
 use Rattle.lengths.specs.Line.{line_of}
-use Rattle.line_parts.specs.Part.{stretch_length, length_from}
-use Rattle.first_stretch.specs.Search.{meets, fraction_of, first_met, stretch_at}
-use Rattle.lengths.specs.declared.line.Point.{Point}
-use Rattle.line_parts.specs.declared.part.Part.{Part}
-use Rattle.stretches.specs.declared.spot.Spot.TheVariants.{Stretch}
-use Rattle.line_parts.proofs.Sums.{next_sum}
-use Rattle.first_stretch.proofs.Turns.{hit, miss, over}
+use Rattle.line_parts.specs.Part.{length_from}
+use Rattle.first_stretch.specs.Search.{stretch_at}
+use Rattle.first_stretch.proofs.Turns.{met_from}
 use Rattle.first_stretch.proofs.search.stretch_at.Given as goal
 
-abbrev pub invariant-loop-j : goal.invariant-loop-j
-invariant-loop-j l =
-    (l.j ≤ l.n) × (l.sum ≡ length_from (line_of l.lat l.lon) l.part.first l.j)
-    × (stretch_at (line_of l.lat l.lon) l.part l.tolerance l.target ≡ first_met (length_from (line_of l.lat l.lon) l.part.first) l.part.first l.tolerance l.target l.j (l.n - l.j))
-
-abbrev pub decreases-loop-j : goal.decreases-loop-j
-decreases-loop-j l = l.n - l.j
+abbrev pub invariant-loop-k : goal.invariant-loop-k
+invariant-loop-k l = record {
+  sum : l.sum ≡ length_from (line_of l.lat l.lon) l.fn.part.first (l.k - l.fn.part.first);
+  met : stretch_at (line_of l.lat l.lon) l.fn.part l.tolerance l.target ≡ met_from (line_of l.lat l.lon) l.fn.part l.tolerance l.target l.k;
+}

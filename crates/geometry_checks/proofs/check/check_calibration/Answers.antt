@@ -1,11 +1,13 @@
-use Rattle.refusals.proofs.Folds.{over, then}
+use borrow.Author.Rules.{rules}
+use mathlib.Core.Path.{◌∙◌}
+use Rattle.verdicts.proofs.Folds.{over, then}
 use Rattle.geometry_checks.specs.Operations.{calibration_causes}
 use Rattle.geometry_checks.proofs.check.check_calibration.Goals as goal
 
 pub returns : goal.returns
 unfolding calibration_causes
 returns c =
-    then _ _ _ _ _ _ c.points_within-best1.ensures
-    (then _ _ _ _ _ _ c.points_within-best2.ensures
+    c.finish.ensures ∙ (then _ _ _ _ _ _ (rw c.new.ensures at c.points_within-line.ensures)
+    (then _ _ _ _ _ _ c.points_within-at.ensures
     (then _ _ _ _ _ _ c.measures.ensures
-    (over _ _)))
+    (over _ _))))

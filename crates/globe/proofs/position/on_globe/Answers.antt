@@ -1,19 +1,20 @@
+-- What the two ranges contain, by the order of IEEE 754.
+use mathlib.Core.Path.{sym, ◌∙◌}
 use lib.Ieee.{of_bits, of_int, neg}
 use Rattle.globe.specs.Globe.{on_globe, within}
+use Rattle.globe.proofs.Between.{partial_le_is}
 use Rattle.globe.proofs.position.on_globe.Goals as goal
 
-pub returns-then-lon : goal.returns-then-lon
+pub returns-then-contains : goal.returns-then-contains
 unfolding on_globe within of_bits of_int neg
-returns-then-lon c = rw (c.if-lat.true, c.if-lat-2.true, c.if-lon.true)
+returns-then-contains c =
+    let n = c.new.ensures in
+    let m = c.new-then-contains.ensures in
+    let lat = simp (n.start, n.end, n.exhausted, partial_le_is) at c.contains.ensures.value in
+    let lon = simp (m.start, m.end, m.exhausted, partial_le_is) at c.contains-then-contains.ensures.value in rw (sym lat ∙ c.if-contains.true) lon
 
-pub returns-else-lon : goal.returns-else-lon
+pub returns-else-contains : goal.returns-else-contains
 unfolding on_globe within of_bits of_int neg
-returns-else-lon c = rw (c.if-lat.true, c.if-lat-2.true, c.if-lon.false)
-
-pub returns-else-lat-2 : goal.returns-else-lat-2
-unfolding on_globe within of_bits of_int neg
-returns-else-lat-2 c = rw (c.if-lat.true, c.if-lat-2.false)
-
-pub returns-else-lat : goal.returns-else-lat
-unfolding on_globe within of_bits of_int neg
-returns-else-lat c = rw c.if-lat.false
+returns-else-contains c =
+    let n = c.new.ensures in
+    let lat = simp (n.start, n.end, n.exhausted, partial_le_is) at c.contains.ensures.value in rw (sym lat ∙ c.if-contains.false) c.if-contains.false

@@ -11,9 +11,9 @@ use Rattle.ids.proofs.lookup.find.Goals as goal
 pub loop-lo-init : goal.loop-lo-init
 loop-lo-init c = start (id_of c.args.bytes.now c.args.words.now c.args.col) c.args.col.starts.n c.args.key.now
 
-pub returns-in-Same : goal.returns-in-Same
-returns-in-Same c =
-    hit (id_of c.args.bytes.now c.args.words.now c.args.col) c.args.col.starts.n c.requires c.args.key.now _ (omega arith) (sym (c.compare.ensures ∙ ap (λ (x : List ℕ). cmp x c.args.key.now) c.id-s.ensures) ∙ c.in-Same.is)
+pub returns-in-Equal : goal.returns-in-Equal
+returns-in-Equal c =
+    hit (id_of c.args.bytes.now c.args.words.now c.args.col) c.args.col.starts.n c.requires c.args.key.now _ (omega arith) (sym (c.compare.ensures ∙ ap (λ (x : List ℕ). cmp x c.args.key.now) c.id-s.ensures) ∙ c.in-Equal.is)
 
 pub loop-lo-preserved-in-Less : goal.loop-lo-preserved-in-Less
 loop-lo-preserved-in-Less c =
@@ -21,7 +21,7 @@ loop-lo-preserved-in-Less c =
 
 pub loop-lo-preserved : goal.loop-lo-preserved
 loop-lo-preserved c =
-    down (id_of c.args.bytes.now c.args.words.now c.args.col) c.args.col.starts.n c.requires c.args.key.now _ c.loop-lo.hi _ c.loop-lo.invariant (omega arith) (omega arith) (sym (c.compare.ensures ∙ ap (λ (x : List ℕ). cmp x c.args.key.now) c.id-s.ensures) ∙ c.in-More.is)
+    down (id_of c.args.bytes.now c.args.words.now c.args.col) c.args.col.starts.n c.requires c.args.key.now _ c.loop-lo.hi _ c.loop-lo.invariant (omega arith) (omega arith) (sym (c.compare.ensures ∙ ap (λ (x : List ℕ). cmp x c.args.key.now) c.id-s.ensures) ∙ c.in-Greater.is)
 
 pub returns : goal.returns
 returns c =

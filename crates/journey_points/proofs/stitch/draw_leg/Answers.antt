@@ -18,10 +18,10 @@ returns-then-n-lt2 c =
     let e = c.draw_ends.ensures in
     let ends = short_walk c.args.bytes.now c.args.words.now c.args.reals.now c.args.j c.args.leg (λ z. c.if-bit-eq0.false (c.bit.ensures ∙ z)) (rw c.cell-n.ensures at c.if-n-lt2.true) in record { at_after = e ∙ rw (← ends); at_bound = omega (arith, two_on _ _ _ e) }
 
-pub draw_points-requires-2 : goal.draw_points-requires-2
-draw_points-requires-2 c = omega (arith, c.cell-n.type_inv, c.requires)
+pub draw_points-requires-else-n-lt2 : goal.draw_points-requires-else-n-lt2
+draw_points-requires-else-n-lt2 c = omega (arith, c.cell-n.type_inv, c.requires)
 
-pub returns : goal.returns
-returns c =
-    let e = c.draw_points-2.ensures in
+pub returns-else-n-lt2 : goal.returns-else-n-lt2
+returns-else-n-lt2 c =
+    let e = c.draw_points-else-n-lt2.ensures in
     let own = long_walk c.args.bytes.now c.args.words.now c.args.reals.now c.args.j c.args.leg (λ z. c.if-bit-eq0.false (c.bit.ensures ∙ z)) (rw c.cell-n.ensures at c.if-n-lt2.false) in record { at_after = e ∙ rw (← own, c.cell-first.ensures, c.cell-n.ensures); at_bound = omega (arith, rows_on _ _ _ _ e, c.cell-n.type_inv) }

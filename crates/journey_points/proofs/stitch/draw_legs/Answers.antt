@@ -1,7 +1,6 @@
 use borrow.Author.Rules.{rules}
 use Prim.Native.Nat.{◌-◌, ◌≤◌}
 use native.Mathlib.Omega.{arith}
-use Rattle.projection.specs.declared.cursor.Position.TheVariants.{Missing}
 use Rattle.point_columns.specs.Sheet.{sheet}
 use Rattle.journey_points.specs.Journey.{leg_positions, journey_points}
 use Rattle.journey_points.proofs.Stitching.{Stitching, begin, next_leg, over, finished}
@@ -15,9 +14,6 @@ loop-k-init c = (search (rules, c.walk-1.given), begin _ _ _)
 
 pub draw_leg-drawn-requires : goal.draw_leg-drawn-requires
 draw_leg-drawn-requires c = omega (arith, c.loop-k.invariant.0, c.loop-k.invariant.1.on.few, c.loop-k-test.true)
-
-pub overflow_add-k : goal.overflow_add-k
-overflow_add-k c = omega (arith, c.loop-k.invariant.0, c.loop-k-test.true)
 
 pub loop-k-preserved : goal.loop-k-preserved
 loop-k-preserved c =

@@ -11,7 +11,7 @@ pub loop-k-init : goal.loop-k-init
 loop-k-init c = start _ _ _ _
 
 pub loop-k-preserved : goal.loop-k-preserved
-loop-k-preserved c = more _ _ _ _ c.loop-k.invariant c.loop-k-test.true (c.draw_one-drawn.ensures ∙ rw c.point_at.ensures)
+loop-k-preserved c = more _ _ _ _ c.loop-k.invariant c.loop-k-test.true (c.draw_one-drawn.ensures ∙ rw c.point_at-point.ensures)
 
 pub shape_of-lat : goal.shape_of-lat
 shape_of-lat c = omega (arith, c.loop-k.invariant.on.lats)

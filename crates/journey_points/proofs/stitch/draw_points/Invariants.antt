@@ -10,6 +10,3 @@ use Rattle.journey_points.proofs.stitch.draw_points.Given as goal
 
 abbrev pub invariant-loop-k : goal.invariant-loop-k
 invariant-loop-k l = Going (point_position l.reals l.points) l.first l.n (sheet l.initial.lat l.initial.lon l.initial.drawn.last l.initial.drawn.at) (sheet l.lat l.lon l.drawn.last l.drawn.at) l.k
-
-abbrev pub decreases-loop-k : goal.decreases-loop-k
-decreases-loop-k l = l.n - l.k

@@ -7,6 +7,6 @@ pub returns-then-bit-eq0 : goal.returns-then-bit-eq0
 unfolding end_at
 returns-then-bit-eq0 c = rw (← c.bit.ensures, eq-eqb _ _ c.if-bit-eq0.true)
 
-pub returns : goal.returns
+pub returns-else-bit-eq0 : goal.returns-else-bit-eq0
 unfolding end_at
-returns c = rw (← c.bit.ensures, ne_eqb _ _ c.if-bit-eq0.false, c.point_at.ensures)
+returns-else-bit-eq0 c = rw (← c.bit.ensures, ne_eqb _ _ c.if-bit-eq0.false, c.point_at.ensures)

@@ -1,14 +1,7 @@
-use Rattle.refusals.proofs.Folds.{first, no_more}
+use borrow.Author.Rules.{rules}
+use Rattle.verdicts.specs.Refuse.{least_of}
 use Rattle.journey_rules.proofs.rules.ends.Goals as goal
 
 pub returns : goal.returns
-returns c =
-    first _ _ _ _ _ _ c.tested-best1.ensures
-    (first _ _ _ _ _ _ c.tested-best2.ensures
-    (first _ _ _ _ _ _ c.tested-best3.ensures
-    (first _ _ _ _ _ _ c.tested-best4.ensures
-    (first _ _ _ _ _ _ c.tested-best5.ensures
-    (first _ _ _ _ _ _ c.tested-best6.ensures
-    (first _ _ _ _ _ _ c.tested-best7.ensures
-    (first _ _ _ _ _ _ c.tested.ensures
-    (no_more _ _))))))))
+unfolding least_of
+returns c = rw (c.test-8.ensures, c.where_set-2.ensures, c.test-7.ensures, c.where_set.ensures, c.test-6.ensures, c.test-5.ensures, c.test-4.ensures, c.test-3.ensures, c.test-2.ensures, c.test.ensures)

@@ -1,18 +1,17 @@
 -- `keys::key::find_joined` meets its contract. A part that is longer than every id makes the key longer too. Otherwise the buffer has room for all four, and holds them joined.
-use borrow.Author.Rules.{rules}
+use Rattle.std.specs.Prelude.{None}
 use native.Mathlib.Omega.{arith}
 use Prim.Native.Nat.{◌+◌, ◌<◌, ℕ}
 use mathlib.Core.List.{List, ◌++◌, append_assoc}
 use mathlib.Core.Path.{◌∙◌, ◌≡◌, ap, sym}
-use lib.ListN.{length, length-append, take}
+use lib.ListN.{length, length-append}
 use lib.Seq.{length-take-le}
 use Rattle.ids.specs.Pool.{id_of}
 use Rattle.ids.specs.Rows.{GoodIds, row_of}
 use Rattle.ids.proofs.Rows.{too_long}
-use Rattle.ids.specs.declared.lookup.Found.TheVariants.{Nothing}
 use Rattle.keys.proofs.key.find_joined.Goals as goal
 
-over : (R : ℕ → List ℕ) (n : ℕ) (a b c d : List ℕ) → GoodIds R n → 96 < length a + (length b + (length c + length d)) → Nothing ≡ row_of R n (a ++ (b ++ (c ++ d)))
+over : (R : ℕ → List ℕ) (n : ℕ) (a b c d : List ℕ) → GoodIds R n → 96 < length a + (length b + (length c + length d)) → None ≡ row_of R n (a ++ (b ++ (c ++ d)))
 over R n a b c d g l =
     let k = a ++ (b ++ (c ++ d)) in
     let e : length k ≡ length a + (length b + (length c + length d)) = simp length-append in

@@ -16,7 +16,7 @@ from_stop_to_stop-requires c = c.requires
 pub returns-then-vertices-eq0 : goal.returns-then-vertices-eq0
 returns-then-vertices-eq0 c =
     let a = c.args in
-    rw (no_shape a.bytes.now a.words.now a.reals.now a.t a.from a.to _ c.in-At.is c.cell-first.ensures c.cell-count.ensures c.trip_span-points.ensures c.shape_column-lats.ensures c.shape_column-lons.ensures (sym c.vertices.ensures ∙ c.if-vertices-eq0.true))
+    rw (no_shape a.bytes.now a.words.now a.reals.now a.t a.from a.to _ c.in-Some.is c.cell-first.ensures c.cell-count.ensures c.trip_span-points.ensures c.shape_column-lats.ensures c.shape_column-lons.ensures (sym c.vertices.ensures ∙ c.if-vertices-eq0.true))
     (record { result_value = c.from_stop_to_stop.ensures.result_value; lat_after = c.from_stop_to_stop.ensures.lat_after; lon_after = c.from_stop_to_stop.ensures.lon_after })
 
 pub along_shape-requires : goal.along_shape-requires
@@ -25,5 +25,5 @@ along_shape-requires c = record { nonzero = omega (arith, c.vertices.ensures, c.
 pub returns : goal.returns
 returns c =
     let a = c.args in
-    rw (with_shape a.bytes.now a.words.now a.reals.now a.t a.from a.to _ c.in-At.is c.cell-first.ensures c.cell-count.ensures c.trip_span-points.ensures c.shape_column-lats.ensures c.shape_column-lons.ensures (λ z. c.if-vertices-eq0.false (c.vertices.ensures ∙ z)))
+    rw (with_shape a.bytes.now a.words.now a.reals.now a.t a.from a.to _ c.in-Some.is c.cell-first.ensures c.cell-count.ensures c.trip_span-points.ensures c.shape_column-lats.ensures c.shape_column-lons.ensures (λ z. c.if-vertices-eq0.false (c.vertices.ensures ∙ z)))
     (record { result_value = c.along_shape.ensures.result_value; lat_after = c.along_shape.ensures.lat_after; lon_after = c.along_shape.ensures.lon_after })

@@ -16,13 +16,13 @@ returns-then-vertices-lt2 c =
 pub route_path-requires : goal.route_path-requires
 route_path-requires c = c.requires
 
-pub returns-in-Over : goal.returns-in-Over
-returns-in-Over c =
+pub returns-in-Some : goal.returns-in-Some
+returns-in-Some c =
     by_span _ _ _ _ _ _ _ _ _ (c.vertices.ensures ∙ ap length (shape_is _ _ _ _ _ _ _ _ c.leg_span-span.ensures c.shape_column-lat.ensures c.shape_column-lon.ensures))
-    _ c.if-vertices-lt2.false (sym c.trip_spanned.ensures ∙ c.in-Over.is)
+    _ c.if-vertices-lt2.false (sym c.trip_spanned.ensures ∙ c.in-Some.is)
 
-pub returns-in-Short : goal.returns-in-Short
-returns-in-Short c =
+pub returns-in-None : goal.returns-in-None
+returns-in-None c =
     let a = c.args in
     let s = shape_is a.bytes.now a.words.now a.reals.now a.c _ _ _ _ c.leg_span-span.ensures c.shape_column-lat.ensures c.shape_column-lon.ensures in
-    rw (c.route_path.ensures, s) (by_route _ _ _ _ _ _ _ _ _ (c.vertices.ensures ∙ ap length s) c.if-vertices-lt2.false (sym c.trip_spanned.ensures ∙ c.in-Short.is))
+    rw (c.route_path.ensures, s) (by_route _ _ _ _ _ _ _ _ _ (c.vertices.ensures ∙ ap length s) c.if-vertices-lt2.false (sym c.trip_spanned.ensures ∙ c.in-None.is))

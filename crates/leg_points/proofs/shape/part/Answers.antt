@@ -35,5 +35,5 @@ returns c =
     let n = c.if-count-eq0.false in
     c.between.ensures
     ∙ rw (← e)
-    (between _ _ _ _ _ (in_order _ _ _ e) (of_trip _ _ _ e (omega (arith, n))) (sym c.row_position.ensures ∙ c.in-Known.is) (sym c.row_position-2.ensures ∙ c.in-Known-row_position.is)
+    (between _ _ _ _ _ (in_order _ _ _ e) (of_trip _ _ _ e (omega (arith, n))) (sym c.row_position.ensures ∙ c.in-Some.is) (sym c.row_position-2.ensures ∙ c.in-Some-row_position.is)
     c.run-i.ensures c.run-j.ensures)

@@ -12,7 +12,7 @@ loop-k-init c = starts _ _ _ _ _
 
 pub loop-k-preserved : goal.loop-k-preserved
 loop-k-preserved c =
-    goes_on _ _ _ _ _ c.loop-k.invariant c.loop-k-test.true (c.pass-passed.ensures ∙ rw c.row_position.ensures)
+    goes_on _ _ _ _ _ c.loop-k.invariant c.loop-k-test.true (c.pass.ensures ∙ rw c.row_position-stop.ensures)
 
 pub returns : goal.returns
 returns c = ends _ _ _ _ _ c.loop-k.invariant c.loop-k-test.false

@@ -9,7 +9,4 @@ use Rattle.leg_points.proofs.Positions.{Run, starts, goes_on, ends}
 use Rattle.leg_points.proofs.shape.run.Given as goal
 
 abbrev pub invariant-loop-k : goal.invariant-loop-k
-invariant-loop-k l = Run (line_of l.lat l.lon) (row_position l.bytes l.words l.reals l.stops l.calls) l.at (l.first + l.skip) l.n l.vertex l.k
-
-abbrev pub decreases-loop-k : goal.decreases-loop-k
-decreases-loop-k l = l.n - l.k
+invariant-loop-k l = Run (line_of l.lat l.lon) (row_position l.bytes l.words l.reals l.stops l.calls) l.at (l.first + l.skip) l.n l.cursor.at l.k

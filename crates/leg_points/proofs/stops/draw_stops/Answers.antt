@@ -21,12 +21,6 @@ loop-k-init c =
 pub put-at-requires : goal.put-at-requires
 put-at-requires c = omega (arith, c.loop-k.invariant.0, c.loop-k.invariant.1.no_more, c.loop-k-test.true)
 
-pub overflow_add-k : goal.overflow_add-k
-overflow_add-k c = omega (arith, c.loop-k.invariant.0)
-
-pub loop-k-smaller : goal.loop-k-smaller
-loop-k-smaller c = omega (arith, c.loop-k.invariant.0)
-
 pub loop-k-preserved : goal.loop-k-preserved
 loop-k-preserved c =
     let i = c.loop-k.invariant in

@@ -11,6 +11,3 @@ use Rattle.leg_points.proofs.stops.draw_stops.Given as goal
 abbrev pub invariant-loop-k : goal.invariant-loop-k
 invariant-loop-k l =
     (l.rows ≤ 4294967296) × Going (row_position l.bytes l.words l.reals l.stops l.calls) l.row l.rows l.initial.lat l.initial.lon l.lat l.lon l.last l.at l.k
-
-abbrev pub decreases-loop-k : goal.decreases-loop-k
-decreases-loop-k l = l.rows - l.k

@@ -2,8 +2,8 @@
 use borrow.Author.Rules.{rules}
 use Rattle.line_answers.proofs.metres.metres_answer.Goals as goal
 
-pub returns-in-By : goal.returns-in-By
-returns-in-By c = rw c.in-By.is
+pub returns-in-Some : goal.returns-in-Some
+returns-in-Some c = rw c.in-Some.is
 
-pub returns-in-Nothing : goal.returns-in-Nothing
-returns-in-Nothing c = rw c.in-Nothing.is
+pub returns-in-None : goal.returns-in-None
+returns-in-None c = rw c.in-None.is

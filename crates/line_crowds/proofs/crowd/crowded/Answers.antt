@@ -1,8 +1,5 @@
-use borrow.Author.Rules.{rules}
 use borrow.Author.Tests.{le-ltb, lt-ltb}
 use Rattle.line_crowds.specs.Crowds.{is_crowded}
-use Rattle.departure_fits.proofs.away_of.Reads as away-of-reads
-use Rattle.line_crowds.proofs.crowd.has_beside.Reads as has-beside-reads
 use Rattle.line_crowds.proofs.crowd.crowded.Goals as goal
 
 pub returns-then-away_of-le60 : goal.returns-then-away_of-le60

@@ -1,17 +1,15 @@
-use borrow.Author.Rules.{rules}
 use mathlib.Core.Path.{◌∙◌, ap, sym}
 use Rattle.row_lookup.specs.Rows.{is_same, row_is}
-use Rattle.row_stands.proofs.stands.Reads as stands-reads
 use Rattle.line_fits.proofs.line.on_line.Goals as goal
 
 pub returns-in-Less : goal.returns-in-Less
 unfolding row_is
 returns-in-Less c = sym (ap is_same (sym c.stands.ensures ∙ c.in-Less.is))
 
-pub returns-in-Same : goal.returns-in-Same
+pub returns-in-Equal : goal.returns-in-Equal
 unfolding row_is
-returns-in-Same c = sym (ap is_same (sym c.stands.ensures ∙ c.in-Same.is))
+returns-in-Equal c = sym (ap is_same (sym c.stands.ensures ∙ c.in-Equal.is))
 
-pub returns-in-More : goal.returns-in-More
+pub returns-in-Greater : goal.returns-in-Greater
 unfolding row_is
-returns-in-More c = sym (ap is_same (sym c.stands.ensures ∙ c.in-More.is))
+returns-in-Greater c = sym (ap is_same (sym c.stands.ensures ∙ c.in-Greater.is))

@@ -1,11 +1,6 @@
-use Rattle.refusals.proofs.Folds.{first, no_more, several}
+use Rattle.verdicts.specs.Refuse.{least_of}
 use Rattle.lookup_rules.proofs.rules.id_rows.Goals as goal
 
 pub returns : goal.returns
-returns c =
-    several _ _ _ _ _ _ c.all_named-best1.ensures
-    (first _ _ _ _ _ _ c.tested-best2.ensures
-    (first _ _ _ _ _ _ c.tested-best3.ensures
-    (first _ _ _ _ _ _ c.tested-best4.ensures
-    (first _ _ _ _ _ _ c.tested.ensures
-    (no_more _ _)))))
+unfolding least_of
+returns c = cc

@@ -6,14 +6,14 @@ use Rattle.trip_tails.proofs.by_tail.Reads as by-tail-reads
 use Rattle.named_trips.proofs.by_id.Reads as by-id-reads
 use Rattle.matching.proofs.whole.resolve.Goals as goal
 
-pub returns-in-At : goal.returns-in-At
+pub returns-in-Some : goal.returns-in-Some
 unfolding match_of
-returns-in-At c = rw (sym c.by_id.ensures ∙ c.in-At.is)
+returns-in-Some c = rw (sym c.by_id.ensures ∙ c.in-Some.is)
 
-pub returns-in-At-by_time : goal.returns-in-At-by_time
+pub returns-in-Some-by_time : goal.returns-in-Some-by_time
 unfolding match_of
-returns-in-At-by_time c = rw (sym c.by_id.ensures ∙ c.in-Nothing.is, sym c.by_time.ensures ∙ c.in-At-by_time.is)
+returns-in-Some-by_time c = rw (sym c.by_id.ensures ∙ c.in-None.is, sym c.by_time.ensures ∙ c.in-Some-by_time.is)
 
 pub returns : goal.returns
 unfolding match_of
-returns c = rw (sym c.by_id.ensures ∙ c.in-Nothing.is, sym c.by_time.ensures ∙ c.in-Nothing-by_time.is) c.by_tail.ensures
+returns c = rw (sym c.by_id.ensures ∙ c.in-None.is, sym c.by_time.ensures ∙ c.in-None-by_time.is) c.by_tail.ensures

@@ -11,6 +11,6 @@ overflow_sub-near c = omega (arith, c.sweep-near.ensures.seen.ordered)
 pub returns-then-near-from-eq1 : goal.returns-then-near-from-eq1
 returns-then-near-from-eq1 c = let s = c.sweep-near in rw (← s.ensures.best) (first_marked _ _ _ s.result s.ensures (omega arith))
 
-pub returns : goal.returns
+pub returns-else-near-from-eq1 : goal.returns-else-near-from-eq1
 unfolding of_bits of_int
-returns c = let s = c.sweep-near in rw (← s.ensures.best) (c.first_within.ensures ∙ sym (first_from _ _ _ s.result s.ensures))
+returns-else-near-from-eq1 c = let s = c.sweep-near in rw (← s.ensures.best) (c.first_within.ensures ∙ sym (first_from _ _ _ s.result s.ensures))

@@ -1,19 +1,11 @@
--- `nearest::vertex::least_square` meets its contract. The loop's invariant: the least of all is that of the best so far and the squares from vertex k on.
-use native.Mathlib.Omega.{arith}
-use Prim.Native.Nat.{◌-◌}
-use mathlib.Core.Path.{◌≡◌, refl, sym, ◌∙◌}
+-- The least of all is that of the best so far and the squares from vertex k on.
+use Rattle.std.proofs.Common.{◌≡◌, drop}
 use mathlib.Core.List.{foldl}
-use lib.Ieee.{div, of_bits}
-use lib.ListN.{drop}
 use Rattle.ieee.specs.Number.{least_of}
 use Rattle.lengths.specs.Line.{line_of}
 use Rattle.nearest.specs.Squares.{squares_of, least_in}
-use Rattle.nearest.proofs.Squares.{least_next, least_over}
 use Rattle.nearest.proofs.vertex.least_square.Given as goal
 
 abbrev pub invariant-loop-k : goal.invariant-loop-k
 invariant-loop-k l =
     least_in (squares_of l.stop (line_of l.lat l.lon)) ≡ foldl least_of l.best (squares_of l.stop (drop l.k (line_of l.lat l.lon)))
-
-abbrev pub decreases-loop-k : goal.decreases-loop-k
-decreases-loop-k l = l.n - l.k

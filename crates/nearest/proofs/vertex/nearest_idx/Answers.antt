@@ -11,6 +11,6 @@ unfolding of_bits
 returns-then-distance c =
     found _ _ c.least_square-least.ensures c.root-distance.ensures c.if-distance.true c.first_near.ensures
 
-pub returns : goal.returns
+pub returns-else-distance : goal.returns-else-distance
 unfolding of_bits
-returns c = not_found _ _ c.least_square-least.ensures c.root-distance.ensures c.if-distance.false
+returns-else-distance c = not_found _ _ c.least_square-least.ensures c.root-distance.ensures c.if-distance.false

@@ -32,4 +32,4 @@ returns-in-Towards c = rw (← c.turn_of-turn.ensures, c.in-Towards.is) c.toward
 
 pub returns-in-After : goal.returns-in-After
 unfolding voyage_from
-returns-in-After c = rw (← c.turn_of-turn.ensures, c.in-After.is, ← c.less-last.ensures) c.at_call-in-After.ensures
+returns-in-After c = rw (← c.turn_of-turn.ensures, c.in-After.is, ← c.saturating_sub-last.ensures) c.at_call-in-After.ensures

@@ -9,4 +9,4 @@ pub returns-in_default : goal.returns-in_default
 returns-in_default c = rw c.in_default.is (record { value = refl; lat_after = refl; lon_after = refl })
 
 pub returns : goal.returns
-returns c = rw c.in-Known.is (record { value = add-one _; lat_after = c.put_row.ensures; lon_after = c.put_row-2.ensures })
+returns c = rw c.in-Some.is (record { value = add-one _; lat_after = c.put_row.ensures; lon_after = c.put_row-2.ensures })

@@ -4,14 +4,14 @@ use mathlib.Core.Path.{sym, ◌∙◌}
 use Rattle.previous.specs.Before.{limit_row}
 use Rattle.previous.proofs.before.limit_row.Goals as goal
 
-pub returns-in-At : goal.returns-in-At
+pub returns-in-Some : goal.returns-in-Some
 unfolding limit_row
-returns-in-At c = rw (sym c.first_target-target.ensures ∙ c.in-At.is)
+returns-in-Some c = rw (sym c.first_target-target.ensures ∙ c.in-Some.is)
 
-pub returns-in-At-later : goal.returns-in-At-later
+pub returns-in-Some-later : goal.returns-in-Some-later
 unfolding limit_row
-returns-in-At-later c =
-    rw (sym c.first_target-target.ensures ∙ c.in_default.is, sym c.first_from-later.ensures ∙ c.in-At-later.is)
+returns-in-Some-later c =
+    rw (sym c.first_target-target.ensures ∙ c.in_default.is, sym c.first_from-later.ensures ∙ c.in-Some-later.is)
 
 pub returns : goal.returns
 unfolding limit_row

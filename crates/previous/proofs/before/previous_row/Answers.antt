@@ -9,4 +9,4 @@ returns-in_default c = rw c.in_default.is
 pub returns : goal.returns
 unfolding row_before
 returns c =
-    rw (c.in-At.is, c.last_placed.ensures, c.limit_row-end.ensures, c.cell-n.ensures, c.cell-from.ensures)
+    rw (c.in-Some.is, c.last_placed.ensures, c.limit_row-end.ensures, c.cell-n.ensures, c.cell-from.ensures)

@@ -1,4 +1,3 @@
-use borrow.Author.Rules.{rules}
 use native.Mathlib.Omega.{arith}
 use mathlib.Core.Path.{◌≡◌, refl}
 use Prim.Native.Nat.{ℕ, zero, suc, ◌-◌, ◌<◌, ◌≤◌}
@@ -7,7 +6,6 @@ use mathlib.Core.List.{List}
 use lib.ListN.{length, get_or, get_or-eq_default}
 use Rattle.ids.specs.Bytes.{is_alnum, upper_of}
 use Rattle.product_codes.specs.Codes.{begins_word}
-use Rattle.ids.proofs.alnum.Reads as alnum-reads
 use Rattle.product_codes.proofs.code.begins_word.Goals as goal
 
 -- A place at the beginning, or past the end: no letter or digit stands before it.

@@ -1,10 +1,5 @@
-use borrow.Author.Rules.{rules}
-use mathlib.Core.Path.{◌∙◌, sym, ap}
+use mathlib.Core.Path.{◌∙◌, sym}
 use Rattle.product_codes.specs.Codes.{code_at}
-use Rattle.parts.proofs.from.Reads as from-reads
-use Rattle.product_codes.proofs.code.begins_word.Reads as begins-word-reads
-use Rattle.product_codes.proofs.code.is_code.Reads as is-code-reads
-use Rattle.product_codes.proofs.code.word_of.Reads as word-of-reads
 use Rattle.product_codes.proofs.code.code_at.Goals as goal
 
 pub returns-then-begins_word : goal.returns-then-begins_word

@@ -1,8 +1,4 @@
-use borrow.Author.Rules.{rules}
 use Rattle.product_codes.specs.Codes.{code_word}
-use Rattle.parts.proofs.past_place.Reads as past-place-reads
-use Rattle.product_codes.proofs.code.code_place.Reads as code-place-reads
-use Rattle.product_codes.proofs.code.word_of.Reads as word-of-reads
 use Rattle.product_codes.proofs.code.code_word.Goals as goal
 
 pub returns : goal.returns

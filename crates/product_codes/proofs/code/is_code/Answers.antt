@@ -1,9 +1,5 @@
-use borrow.Author.Rules.{rules}
 use borrow.Author.Tests.{eq-eqb, le-leb, lt-leb, ne_eqb}
 use Rattle.product_codes.specs.Codes.{is_code}
-use Rattle.ids.proofs.upper.Reads as upper-reads
-use Rattle.text_runs.proofs.digit_run.Reads as digit-run-reads
-use Rattle.parts.proofs.from.Reads as from-reads
 use Rattle.product_codes.proofs.code.is_code.Goals as goal
 
 pub returns-then-w-lt5 : goal.returns-then-w-lt5

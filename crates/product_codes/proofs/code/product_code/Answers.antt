@@ -1,9 +1,6 @@
-use borrow.Author.Rules.{rules}
-use mathlib.Core.Path.{◌∙◌, sym, ap}
+use mathlib.Core.Path.{◌∙◌}
 use Rattle.product_codes.specs.Codes.{product_code}
 use Rattle.parts.proofs.Either.{or_empty, or_some}
-use Rattle.product_codes.proofs.code.code_word.Reads as code-word-reads
-use Rattle.product_codes.proofs.code.line_word.Reads as line-word-reads
 use Rattle.product_codes.proofs.code.product_code.Goals as goal
 
 pub returns-then-w-eq0 : goal.returns-then-w-eq0

@@ -1,6 +1,5 @@
-use borrow.Author.Rules.{rules}
 use native.Mathlib.Omega.{arith}
-use Prim.Native.Nat.{ℕ, suc, ◌+◌, ◌*◌, ◌-◌, ◌≤◌, ◌<◌, ◌^◌}
+use Prim.Native.Nat.{ℕ, suc, ◌+◌, ◌*◌, ◌≤◌, ◌<◌, ◌^◌}
 use native.Mathlib.Nat.{pow-le-pow_right}
 use mathlib.Core.Path.{◌≡◌, refl, subst, ◌∙◌}
 use mathlib.Core.List.{List}
@@ -22,21 +21,21 @@ next s b d x i p q e = let j : i + 1 ≡ suc i = omega arith in rw (j, p, q, e)
 
 pub loop-i-init : goal.loop-i-init
 unfolding hex_of
-loop-i-init c = (omega arith, omega arith, refl, omega arith)
+loop-i-init c = (refl, omega arith)
 
 pub overflow_mul-bits : goal.overflow_mul-bits
-overflow_mul-bits c = omega (arith, room c.loop-i.bits c.loop-i.i c.args.n c.loop-i.invariant.3 c.loop-i-test.true c.loop-i.invariant.1)
+overflow_mul-bits c = omega (arith, room c.loop-i.bits c.loop-i.i c.args.n c.loop-i.invariant.1 c.loop-i-test.true c.requires)
 
 pub overflow_add-bits : goal.overflow_add-bits
-overflow_add-bits c = omega (arith, room c.loop-i.bits c.loop-i.i c.args.n c.loop-i.invariant.3 c.loop-i-test.true c.loop-i.invariant.1, c.digit.ensures.upper_bound)
+overflow_add-bits c = omega (arith, room c.loop-i.bits c.loop-i.i c.args.n c.loop-i.invariant.1 c.loop-i-test.true c.requires, c.digit.ensures.upper_bound)
 
 pub loop-i-preserved : goal.loop-i-preserved
 loop-i-preserved c =
     let l = c.loop-i in
-    (omega arith, omega arith, next _ l.bits c.digit.result c.byte.result l.i l.invariant.2 c.digit.ensures.value c.byte.ensures, more l.bits c.digit.result l.i l.invariant.3 c.digit.ensures.upper_bound)
+    (next _ l.bits c.digit.result c.byte.result l.i l.invariant.0 c.digit.ensures.value c.byte.ensures, more l.bits c.digit.result l.i l.invariant.1 c.digit.ensures.upper_bound)
 
 pub returns : goal.returns
 returns c =
     let l = c.loop-i in
     let n = c.args.n in
-    let e : l.i ≡ n = omega (arith, c.loop-i-test.false) in record { value = l.invariant.2 ∙ rw (e, c.part-digits.ensures); upper_bound = subst (λ (k : ℕ). l.bits < 16 ^ k) e l.invariant.3 }
+    let e : l.i ≡ n = omega arith in record { value = l.invariant.0 ∙ rw (e, c.part-digits.ensures); upper_bound = subst (λ (k : ℕ). l.bits < 16 ^ k) e l.invariant.1 }

@@ -1,5 +1,5 @@
 -- `reach::far::limit` meets its contract: past what was tried every way is longer, and past infinity there is nothing.
-use lib.Ieee.{div, of_bits}
+use lib.Ieee.{of_bits}
 use Rattle.reach.proofs.Past.{holds, tried, past_infinity}
 use Rattle.reach.proofs.far.limit.Goals as goal
 
@@ -8,6 +8,6 @@ unfolding of_bits
 returns-then-most-low c =
     record { longer = λ a. tried _ _ a (holds c.if-a.true) (rw (← c.root.ensures, ← c.low.ensures) (holds c.if-most-low.true)) }
 
-pub returns : goal.returns
-unfolding div of_bits
-returns c = past_infinity _
+pub returns-else-a : goal.returns-else-a
+unfolding of_bits
+returns-else-a c = past_infinity _

@@ -1,6 +1,6 @@
--- `routes::route::inside` meets its contract.
-use mathlib.Core.Path.{◌≡◌, refl}
-use lib.Ieee.{binary64, div, of_bits, of_int}
+use Rattle.std.proofs.Common.{◌≡◌, refl, rules}
+use Rattle.std.specs.Float.{binary64}
+use Rattle.std.specs.Float.Ieee.{div, of_bits, of_int}
 use Rattle.routes.specs.Route.{nano, inside_of}
 use Rattle.routes.proofs.route.inside.Goals as goal
 
@@ -10,8 +10,8 @@ nano_is = refl
 
 pub returns-then-route : goal.returns-then-route
 unfolding inside_of of_bits of_int
-returns-then-route c = rw c.if-route.true
+returns-then-route c = search rules
 
-pub returns : goal.returns
+pub returns-else-route : goal.returns-else-route
 unfolding inside_of of_bits of_int
-returns c = rw (c.if-route.false, ← nano_is) c.stretch_at.ensures
+returns-else-route c = rw (c.if-route.false, ← nano_is) c.stretch_at.ensures

@@ -4,8 +4,6 @@ use native.Mathlib.Omega.{arith}
 use Prim.Native.Nat.{◌+◌, ◌-◌, ◌/◌, ℕ}
 use mathlib.Core.List.{List}
 use mathlib.Core.Path.{◌∙◌, ◌≡◌, sym}
-use Rattle.ids.specs.declared.order.Order.{Order}
-use Rattle.ids.specs.declared.order.Order.TheVariants.{Less, Same, More}
 use Rattle.ids.proofs.ByteOrder.{clash}
 use Rattle.column_order.specs.Order.{cmp_parts}
 use Rattle.row_stands.specs.Stands.{key_of, parts_at, stand_of}

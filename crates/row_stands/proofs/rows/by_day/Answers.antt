@@ -24,18 +24,18 @@ pub returns-in-Less : goal.returns-in-Less
 unfolding stand_of parts_at key_of
 returns-in-Less c = two_less _ _ _ _ _ _ c.by_names.ensures c.in-Less.is
 
-pub returns-in-More : goal.returns-in-More
+pub returns-in-Greater : goal.returns-in-Greater
 unfolding stand_of parts_at key_of
-returns-in-More c = two_more _ _ _ _ _ _ c.by_names.ensures c.in-More.is
+returns-in-Greater c = two_more _ _ _ _ _ _ c.by_names.ensures c.in-Greater.is
 
 pub returns-then-o-day : goal.returns-then-o-day
 unfolding stand_of parts_at key_of
-returns-then-o-day c = two_same _ _ _ _ _ _ c.by_names.ensures c.in-Same.is (part_less _ _ _ _ refl (head_less _ _ [] [] (rw (← c.cell.ensures, ← c.ordinal_of-o.ensures) c.if-o-day.true)))
+returns-then-o-day c = two_same _ _ _ _ _ _ c.by_names.ensures c.in-Equal.is (part_less _ _ _ _ refl (head_less _ _ [] [] (rw (← c.cell.ensures, ← c.ordinal_of-o.ensures) c.if-o-day.true)))
 
 pub returns-then-day-o : goal.returns-then-day-o
 unfolding stand_of parts_at key_of
-returns-then-day-o c = two_same _ _ _ _ _ _ c.by_names.ensures c.in-Same.is (part_more _ _ _ _ refl (head_more _ _ [] [] (rw (← c.cell.ensures, ← c.ordinal_of-o.ensures) c.if-day-o.true)))
+returns-then-day-o c = two_same _ _ _ _ _ _ c.by_names.ensures c.in-Equal.is (part_more _ _ _ _ refl (head_more _ _ [] [] (rw (← c.cell.ensures, ← c.ordinal_of-o.ensures) c.if-day-o.true)))
 
 pub returns : goal.returns
 unfolding stand_of parts_at key_of
-returns c = two_same _ _ _ _ _ _ c.by_names.ensures c.in-Same.is (part_same _ _ _ _ refl ((same_equal _ _).1 (ap (λ (x : ℕ). x ∷ []) (on_day c.cell.ensures c.ordinal_of-o.ensures (omega (arith, c.if-day-o.false, c.if-o-day.false))))) ((rw c.bit.ensures at c.numbers.ensures) ∙ sym (only_part _ _)))
+returns c = two_same _ _ _ _ _ _ c.by_names.ensures c.in-Equal.is (part_same _ _ _ _ refl ((same_equal _ _).1 (ap (λ (x : ℕ). x ∷ []) (on_day c.cell.ensures c.ordinal_of-o.ensures (omega (arith, c.if-day-o.false, c.if-o-day.false))))) ((rw c.bit.ensures at c.numbers.ensures) ∙ sym (only_part _ _)))

@@ -11,10 +11,10 @@ pub returns-in-Less : goal.returns-in-Less
 unfolding stand_of parts_at key_of
 returns-in-Less c = part_less _ _ _ _ (rw c.id.ensures at c.compare.ensures) c.in-Less.is
 
-pub returns-in-More : goal.returns-in-More
+pub returns-in-Greater : goal.returns-in-Greater
 unfolding stand_of parts_at key_of
-returns-in-More c = part_more _ _ _ _ (rw c.id.ensures at c.compare.ensures) c.in-More.is
+returns-in-Greater c = part_more _ _ _ _ (rw c.id.ensures at c.compare.ensures) c.in-Greater.is
 
 pub returns : goal.returns
 unfolding stand_of parts_at key_of
-returns c = part_same _ _ _ _ (rw c.id.ensures at c.compare.ensures) c.in-Same.is ((rw c.id-2.ensures at c.compare-2.ensures) ∙ sym (only_part _ _))
+returns c = part_same _ _ _ _ (rw c.id.ensures at c.compare.ensures) c.in-Equal.is ((rw c.id-2.ensures at c.compare-2.ensures) ∙ sym (only_part _ _))

@@ -1,16 +1,16 @@
 -- `sailings::trip::trip_from` meets its contract.
+use Rattle.std.specs.Prelude.{Option, ℕ}
 use mathlib.Core.Path.{◌≡◌, ◌∙◌, ap, sym, subst}
 use lib.IntN.{ℤ}
 use mir.Syntax.{w64}
 use mir.Val.{SFits, to_z, of_z}
 use mir.Facts.{to_z-of_z}
 use Rattle.moments.specs.Moments.{InReach}
-use Rattle.first_departures.specs.declared.first.Moment.{Moment}
 use Rattle.sailings.specs.Sailing.{local_at, trip_from}
 use Rattle.sailings.proofs.trip.trip_from.Goals as goal
 
 -- the first departure in local time, as the code hands it on
-local_read : (m : Moment) (x y z : ℤ) → SFits w64 x → SFits w64 y → x ≡ z → y ≡ local_at m (to_z w64 (of_z w64 x)) → to_z w64 (of_z w64 y) ≡ local_at m z
+local_read : (m : Option ℕ) (x y z : ℤ) → SFits w64 x → SFits w64 y → x ≡ z → y ≡ local_at m (to_z w64 (of_z w64 x)) → to_z w64 (of_z w64 y) ≡ local_at m z
 local_read m x y z f g e h = to_z-of_z {w = w64} g ∙ h ∙ ap (local_at m) (to_z-of_z {w = w64} f ∙ e)
 
 pub local-at-requires : goal.local-at-requires

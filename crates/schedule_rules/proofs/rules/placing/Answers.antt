@@ -1,9 +1,6 @@
-use Rattle.refusals.proofs.Folds.{first, no_more}
+use Rattle.verdicts.specs.Refuse.{least_of}
 use Rattle.schedule_rules.proofs.rules.placing.Goals as goal
 
 pub returns : goal.returns
-returns c =
-    first _ _ _ _ _ _ c.tested-best1.ensures
-    (first _ _ _ _ _ _ c.tested-best2.ensures
-    (first _ _ _ _ _ _ c.tested.ensures
-    (no_more _ _)))
+unfolding least_of
+returns c = cc

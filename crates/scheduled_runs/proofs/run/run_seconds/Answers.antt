@@ -10,4 +10,4 @@ returns-in_default c = rw c.in_default.is
 pub returns : goal.returns
 unfolding run_among
 returns c =
-    rw (c.in-At.is, c.between.ensures, c.last_with-departs.ensures, c.last_with-arrives.ensures, c.cell-n.ensures, c.cell-first.ensures, sum_less)
+    rw (c.in-Some.is, c.between.ensures, c.last_with-departs.ensures, c.last_with-arrives.ensures, c.cell-n.ensures, c.cell-first.ensures, sum_less)

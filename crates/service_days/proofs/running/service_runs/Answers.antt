@@ -11,14 +11,14 @@ use Rattle.service_days.proofs.running.service_runs.Goals as goal
 
 pub returns-then-refusal-ne0 : goal.returns-then-refusal-ne0
 unfolding running_of
-returns-then-refusal-ne0 c = rw (← c.chart.ensures, ← c.check_service-refusal.ensures) (denied _ _ c.if-refusal-ne0.true)
+returns-then-refusal-ne0 c = rw (← c.chart.ensures, ← (c.number_or_zero-refusal.ensures ∙ c.check_service.ensures)) (denied _ _ c.if-refusal-ne0.true)
 
 pub is_running-requires : goal.is_running-requires
 is_running-requires c =
     let a = c.args in
-    service_ready (pools a.bytes.now a.words.now a.times.now a.reals.now a.dists.now) a.t a.s (rw (← c.chart.ensures) (sym c.check_service-refusal.ensures ∙ c.if-refusal-ne0.false))
+    service_ready (pools a.bytes.now a.words.now a.times.now a.reals.now a.dists.now) a.t a.s (rw (← c.chart.ensures) (sym (c.number_or_zero-refusal.ensures ∙ c.check_service.ensures) ∙ c.if-refusal-ne0.false))
 
 pub returns : goal.returns
 unfolding running_of
 returns c =
-    rw (← c.chart.ensures, ← c.check_service-refusal.ensures, ← c.is_running.ensures) (c.run_answer.ensures ∙ told _ _ c.if-refusal-ne0.false)
+    rw (← c.chart.ensures, ← (c.number_or_zero-refusal.ensures ∙ c.check_service.ensures), ← c.is_running.ensures) (c.run_answer.ensures ∙ told _ _ c.if-refusal-ne0.false)

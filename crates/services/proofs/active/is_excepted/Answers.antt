@@ -5,10 +5,10 @@ use Rattle.services.specs.Runs.{excepted}
 use Rattle.row_lookup.proofs.row_of.Reads as row-of-reads
 use Rattle.services.proofs.active.is_excepted.Goals as goal
 
-pub returns-in-At : goal.returns-in-At
+pub returns-in-Some : goal.returns-in-Some
 unfolding excepted
-returns-in-At c = sym (ap is_at (sym c.row_of.ensures ∙ c.in-At.is))
+returns-in-Some c = sym (ap is_at (sym c.row_of.ensures ∙ c.in-Some.is))
 
-pub returns-in-Nothing : goal.returns-in-Nothing
+pub returns-in-None : goal.returns-in-None
 unfolding excepted
-returns-in-Nothing c = sym (ap is_at (sym c.row_of.ensures ∙ c.in-Nothing.is))
+returns-in-None c = sym (ap is_at (sym c.row_of.ensures ∙ c.in-None.is))

@@ -1,4 +1,3 @@
-use borrow.Author.Rules.{rules}
 use lib.Ieee.{of_bits, of_int}
 use Rattle.sphere_lengths.proofs.haversines.way.Goals as goal
 

@@ -1,6 +1,6 @@
 use borrow.Author.Rules.{rules}
 use mathlib.Core.Path.{ap}
-use Rattle.measure.specs.Answer.{given}
+use Rattle.refusals.specs.Answer.{given}
 use Rattle.answers.proofs.Told.{told, denied}
 use Rattle.stop_projection.specs.Step.{stepped_of}
 use Rattle.stop_projection.proofs.step.project_stop.Goals as goal

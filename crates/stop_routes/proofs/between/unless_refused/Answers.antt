@@ -12,6 +12,7 @@ use Rattle.stop_routes.specs.Routed.{roundabout, routed_of}
 use Rattle.routes.specs.declared.route.Route.{Route}
 use Rattle.stop_routes.specs.declared.between.Routed.TheVariants.{Over, Nothing}
 use Rattle.stop_routes.proofs.between.unless_refused.Goals as goal
+use Rattle.stop_routes.proofs.between.unless_refused.Goals.{then-route, else-route}
 
 module _ (line : List Point) (part : Part) (way : Way) (prev next : Point) {route : Route} (e : route ≡ route_of line part) where
   short : lt route.total one ≡ true → Nothing ≡ routed_of line part way prev next
@@ -26,14 +27,18 @@ module _ (line : List Point) (part : Part) (way : Way) (prev next : Point) {rout
   unfolding routed_of
   fair h r = rw (← e, h, r)
 
-pub returns-then-route : goal.returns-then-route
-unfolding of_bits of_int
-returns-then-route c = short _ _ _ _ _ c.route_of-route.ensures c.if-route.true
-
 pub returns-then-is_roundabout : goal.returns-then-is_roundabout
 unfolding of_bits of_int
-returns-then-is_roundabout c = far _ _ _ _ _ c.route_of-route.ensures c.if-route.false (sym c.is_roundabout.ensures ∙ c.if-is_roundabout.true)
+returns-then-is_roundabout c =
+    elim c.if-route.branch [
+      | then-route w ↦ short _ _ _ _ _ c.route_of-route.ensures w.if-route.true
+      | else-route w ↦ far _ _ _ _ _ c.route_of-route.ensures w.if-route.false (sym w.is_roundabout.ensures ∙ sym w.value-is ∙ c.if-is_roundabout.true)
+    ]
 
-pub returns : goal.returns
+pub returns-else-is_roundabout : goal.returns-else-is_roundabout
 unfolding of_bits of_int
-returns c = fair _ _ _ _ _ c.route_of-route.ensures c.if-route.false (sym c.is_roundabout.ensures ∙ c.if-is_roundabout.false)
+returns-else-is_roundabout c =
+    elim c.if-route.branch [
+      | then-route w ↦ cc
+      | else-route w ↦ fair _ _ _ _ _ c.route_of-route.ensures w.if-route.false (sym w.is_roundabout.ensures ∙ sym w.value-is ∙ c.if-is_roundabout.false)
+    ]

@@ -1,4 +1,3 @@
-use borrow.Author.Rules.{rules}
 use Rattle.stop_rows.specs.Rows.{row_stop}
 use Rattle.stop_rows.proofs.row.row_stop.Goals as goal
 

@@ -1,12 +1,7 @@
-use Rattle.refusals.proofs.Folds.{first, several}
+use borrow.Author.Rules.{rules}
+use Rattle.verdicts.specs.Refuse.{least_of}
 use Rattle.stop_rules.proofs.rules.stops.Goals as goal
 
 pub returns : goal.returns
-returns c =
-    first _ _ _ _ _ _ c.tested-best1.ensures
-    (first _ _ _ _ _ _ c.tested-best2.ensures
-    (first _ _ _ _ _ _ c.tested-best3.ensures
-    (first _ _ _ _ _ _ c.tested-best4.ensures
-    (first _ _ _ _ _ _ c.tested-best5.ensures
-    (several _ _ _ _ _ _ c.all_named-best6.ensures
-    c.named.ensures)))))
+unfolding least_of
+returns c = rw (c.test_ids.ensures, c.test_all_ids.ensures, c.test-5.ensures, c.where_set.ensures, c.test-4.ensures, c.test-3.ensures, c.test-2.ensures, c.test.ensures)

@@ -1,4 +1,3 @@
-use borrow.Author.Rules.{rules}
 use borrow.Author.Tests.{eq-eqb, ne_eqb}
 use Rattle.trip_tails.specs.Tails.{tail_trip}
 use Rattle.trip_tails.proofs.tail.by_tail.Goals as goal

@@ -1,4 +1,3 @@
-use borrow.Author.Rules.{rules}
 use borrow.Author.Tests.{le-leb, lt-leb}
 use mathlib.Core.Path.{◌∙◌, sym}
 use Rattle.trip_tails.specs.Tails.{has_tail}

@@ -1,15 +1,14 @@
-use borrow.Author.Rules.{rules}
 use mathlib.Core.Path.{◌∙◌, sym}
 use Rattle.trip_tails.specs.Tails.{tail_row}
 use Rattle.trip_tails.proofs.tail.is_row.Goals as goal
 
-pub returns-in-At : goal.returns-in-At
+pub returns-in-Some : goal.returns-in-Some
 unfolding tail_row
-returns-in-At c = simp (sym (rw c.id.ensures at c.has_tail.ensures) ∙ c.if-has_tail.true, c.in-At.is, c.cell.ensures)
+returns-in-Some c = simp (sym (rw c.id.ensures at c.has_tail.ensures) ∙ c.if-has_tail.true, c.in-Some.is, c.cell.ensures)
 
-pub returns-in-Nothing : goal.returns-in-Nothing
+pub returns-in-None : goal.returns-in-None
 unfolding tail_row
-returns-in-Nothing c = simp (sym (rw c.id.ensures at c.has_tail.ensures) ∙ c.if-has_tail.true, c.in-Nothing.is)
+returns-in-None c = simp (sym (rw c.id.ensures at c.has_tail.ensures) ∙ c.if-has_tail.true, c.in-None.is)
 
 pub returns : goal.returns
 unfolding tail_row

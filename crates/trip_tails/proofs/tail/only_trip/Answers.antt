@@ -1,4 +1,3 @@
-use borrow.Author.Rules.{rules}
 use borrow.Author.Count.{below_none}
 use native.Mathlib.Omega.{arith}
 use mathlib.Core.Path.{◌∙◌, sym}
@@ -11,19 +10,19 @@ pub next_row-requires : goal.next_row-requires
 next_row-requires c = below_none _
 
 pub overflow_add-k : goal.overflow_add-k
-overflow_add-k c = omega (arith, (first_found _ _ _ (sym c.next_row.ensures ∙ c.in-At.is)).0)
+overflow_add-k c = omega (arith, (first_found _ _ _ (sym c.next_row.ensures ∙ c.in-Some.is)).0)
 
-pub next_row-requires-in-At : goal.next_row-requires-in-At
-next_row-requires-in-At c = let a = c.args in up_to_first a.bytes.now a.words.now a.tripkeys a.tail.now _ _ (sym c.next_row.ensures ∙ c.in-At.is) c.cell.ensures
+pub next_row-requires-in-Some : goal.next_row-requires-in-Some
+next_row-requires-in-Some c = let a = c.args in up_to_first a.bytes.now a.words.now a.tripkeys a.tail.now _ _ (sym c.next_row.ensures ∙ c.in-Some.is) c.cell.ensures
 
-pub returns-in-At-next_row : goal.returns-in-At-next_row
+pub returns-in-Some-next_row : goal.returns-in-Some-next_row
 unfolding only_trip
-returns-in-At-next_row c = rw (sym c.next_row.ensures ∙ c.in-At.is, sym (rw c.cell.ensures at c.next_row-in-At.ensures) ∙ c.in-At-next_row.is)
+returns-in-Some-next_row c = rw (sym c.next_row.ensures ∙ c.in-Some.is, sym (rw c.cell.ensures at c.next_row-in-Some.ensures) ∙ c.in-Some-next_row.is)
 
-pub returns-in-Nothing-next_row : goal.returns-in-Nothing-next_row
+pub returns-in-None-next_row : goal.returns-in-None-next_row
 unfolding only_trip
-returns-in-Nothing-next_row c = rw (sym c.next_row.ensures ∙ c.in-At.is, c.cell.ensures, sym (rw c.cell.ensures at c.next_row-in-At.ensures) ∙ c.in-Nothing-next_row.is)
+returns-in-None-next_row c = rw (sym c.next_row.ensures ∙ c.in-Some.is, c.cell.ensures, sym (rw c.cell.ensures at c.next_row-in-Some.ensures) ∙ c.in-None-next_row.is)
 
-pub returns-in-Nothing : goal.returns-in-Nothing
+pub returns-in-None : goal.returns-in-None
 unfolding only_trip
-returns-in-Nothing c = simp (sym c.next_row.ensures ∙ c.in-Nothing.is)
+returns-in-None c = simp (sym c.next_row.ensures ∙ c.in-None.is)

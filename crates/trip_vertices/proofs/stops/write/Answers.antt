@@ -9,7 +9,7 @@ pub returns-in_default : goal.returns-in_default
 returns-in_default c = record { result_value = (of_none _ _ _ _ _ c.in_default.is).0; out_after = (of_none _ _ _ _ _ c.in_default.is).1 }
 
 pub returns-then-out-n : goal.returns-then-out-n
-returns-then-out-n c = record { result_value = (of_short _ _ _ _ _ _ c.in-At.is c.cell-n.ensures c.if-out-n.true).0; out_after = (of_short _ _ _ _ _ _ c.in-At.is c.cell-n.ensures c.if-out-n.true).1 }
+returns-then-out-n c = record { result_value = (of_short _ _ _ _ _ _ c.in-Some.is c.cell-n.ensures c.if-out-n.true).0; out_after = (of_short _ _ _ _ _ _ c.in-Some.is c.cell-n.ensures c.if-out-n.true).1 }
 
 pub fill-requires : goal.fill-requires
 fill-requires c = record { lon_len_bound = line_small _ _ _ _ c.shape_column.ensures (search (rules, c.trip_span-points.type_inv)); n_in_bounds = c.if-out-n.false }
@@ -18,6 +18,6 @@ pub returns : goal.returns
 unfolding trip_vertices trip_line
 returns c =
     let a = c.args in
-    let w = of_enough a.bytes.now a.words.now a.reals.now a.t a.out.now c.in-At.trip c.in-At.is c.cell-n.ensures c.if-out-n.false
+    let w = of_enough a.bytes.now a.words.now a.reals.now a.t a.out.now c.in-Some.trip c.in-Some.is c.cell-n.ensures c.if-out-n.false
     (c.fill.ensures ∙ rw (c.shape_column.ensures, c.shape_column-2.ensures, c.trip_span-points.ensures, c.cell.ensures, c.cell-n.ensures)) in
     record { result_value = w.0; out_after = w.1 }

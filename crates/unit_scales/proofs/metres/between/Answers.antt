@@ -1,20 +1,22 @@
--- `unit_scales::metres::between` meets its contract.
-use mathlib.Core.Path.{sym, ◌∙◌}
-use lib.Ieee.{of_bits}
+use Rattle.std.proofs.Common.{sym, ◌∙◌}
+use Rattle.std.specs.Float.Ieee.{of_bits}
 use Rattle.unit_scales.specs.Scale.{decimal}
 use Rattle.unit_scales.specs.Metres.{affine_between}
 use Rattle.unit_scales.proofs.metres.between.Goals as goal
-
-pub returns-then-too_near : goal.returns-then-too_near
-unfolding affine_between decimal of_bits
-returns-then-too_near c = rw (sym c.too_near.ensures ∙ c.if-too_near.true)
+use Rattle.unit_scales.proofs.metres.between.Goals.{then-too_near, else-too_near}
 
 pub returns-then-too_near-2 : goal.returns-then-too_near-2
 unfolding affine_between decimal of_bits
 returns-then-too_near-2 c =
-    rw (sym c.too_near.ensures ∙ c.if-too_near.false, sym c.too_near-2.ensures ∙ c.if-too_near-2.true)
+    elim c.if-too_near.branch [
+      | then-too_near w ↦ rw (sym c.too_near.ensures ∙ w.if-too_near.true)
+      | else-too_near w ↦ rw (sym c.too_near.ensures ∙ w.if-too_near.false, sym w.too_near-else-too_near.ensures ∙ sym w.value-is ∙ c.if-too_near-2.true)
+    ]
 
-pub returns : goal.returns
+pub returns-else-too_near-2 : goal.returns-else-too_near-2
 unfolding affine_between decimal of_bits
-returns c =
-    rw (sym c.too_near.ensures ∙ c.if-too_near.false, sym c.too_near-2.ensures ∙ c.if-too_near-2.false, c.scaled.ensures, c.snap_unit_scale.ensures)
+returns-else-too_near-2 c =
+    elim c.if-too_near.branch [
+      | then-too_near w ↦ cc
+      | else-too_near w ↦ rw (sym c.too_near.ensures ∙ w.if-too_near.false, sym w.too_near-else-too_near.ensures ∙ sym w.value-is ∙ c.if-too_near-2.false, c.scaled.ensures, c.snap_unit_scale.ensures)
+    ]

@@ -1,12 +1,12 @@
--- `unit_scales::scale::near_unit` meets its contract.
-use lib.Ieee.{of_bits}
-use Rattle.unit_scales.specs.Scale.{decimal, near_unit}
+use Rattle.std.proofs.Common.{rules}
+use Rattle.std.specs.Float.Ieee.{of_bits}
+use Rattle.unit_scales.specs.Scale.{near_unit, decimal}
 use Rattle.unit_scales.proofs.scale.near_unit.Goals as goal
 
 pub returns-then-ratio : goal.returns-then-ratio
 unfolding near_unit decimal of_bits
-returns-then-ratio c = rw (c.if-ratio.true, c.abs.ensures)
+returns-then-ratio c = search rules
 
-pub returns : goal.returns
+pub returns-else-ratio : goal.returns-else-ratio
 unfolding near_unit of_bits
-returns c = rw c.if-ratio.false
+returns-else-ratio c = search rules

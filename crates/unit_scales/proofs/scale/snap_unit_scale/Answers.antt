@@ -1,29 +1,23 @@
--- `unit_scales::scale::snap_unit_scale` meets its contract: each unit is asked of in its turn.
-use mathlib.Core.Path.{sym, ◌∙◌}
-use lib.Ieee.{of_bits, of_int}
+use Rattle.std.proofs.Common.{◌≡◌, refl, sym, ◌∙◌, arith}
+use Rattle.std.specs.Float.Ieee.{of_bits, of_int}
 use Rattle.unit_scales.specs.Scale.{decimal, first_near}
+use Rattle.unit_scales.proofs.Units.{near_here, near_later}
 use Rattle.unit_scales.proofs.scale.snap_unit_scale.Goals as goal
 
+pub loop-unit-init : goal.loop-unit-init
+unfolding decimal of_bits of_int
+loop-unit-init c = refl
+
 pub returns-then-near_unit : goal.returns-then-near_unit
-unfolding first_near decimal of_bits of_int
-returns-then-near_unit c = rw (sym c.near_unit.ensures ∙ c.if-near_unit.true)
+returns-then-near_unit c =
+    let l = c.loop-unit in
+    sym (near_here _ l.unit-index _ (sym c.near_unit.ensures ∙ c.if-near_unit.true) (omega arith)) ∙ l.invariant
 
-pub returns-then-near_unit-2 : goal.returns-then-near_unit-2
-unfolding first_near decimal of_bits of_int
-returns-then-near_unit-2 c =
-    rw (sym c.near_unit.ensures ∙ c.if-near_unit.false, sym c.near_unit-2.ensures ∙ c.if-near_unit-2.true)
-
-pub returns-then-near_unit-3 : goal.returns-then-near_unit-3
-unfolding first_near decimal of_bits of_int
-returns-then-near_unit-3 c =
-    rw (sym c.near_unit.ensures ∙ c.if-near_unit.false, sym c.near_unit-2.ensures ∙ c.if-near_unit-2.false, sym c.near_unit-3.ensures ∙ c.if-near_unit-3.true)
-
-pub returns-then-near_unit-4 : goal.returns-then-near_unit-4
-unfolding first_near decimal of_bits of_int
-returns-then-near_unit-4 c =
-    rw (sym c.near_unit.ensures ∙ c.if-near_unit.false, sym c.near_unit-2.ensures ∙ c.if-near_unit-2.false, sym c.near_unit-3.ensures ∙ c.if-near_unit-3.false, sym c.near_unit-4.ensures ∙ c.if-near_unit-4.true)
+pub loop-unit-preserved : goal.loop-unit-preserved
+loop-unit-preserved c =
+    let l = c.loop-unit in
+    sym (near_later _ l.unit-index _ (sym c.near_unit.ensures ∙ c.if-near_unit.false) (omega arith)) ∙ l.invariant
 
 pub returns : goal.returns
-unfolding first_near decimal of_bits of_int
-returns c =
-    rw (sym c.near_unit.ensures ∙ c.if-near_unit.false, sym c.near_unit-2.ensures ∙ c.if-near_unit-2.false, sym c.near_unit-3.ensures ∙ c.if-near_unit-3.false, sym c.near_unit-4.ensures ∙ c.if-near_unit-4.false)
+unfolding first_near
+returns c = let e : c.loop-unit.unit-index ≡ 4 = omega arith in rw e at c.loop-unit.invariant

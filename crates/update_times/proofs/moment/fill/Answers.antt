@@ -1,9 +1,5 @@
-use borrow.Author.Rules.{rules}
-use Prim.Native.Nat.{◌-◌}
 use native.Mathlib.Omega.{arith}
-use lib.ListN.{length}
-use Rattle.update_rows.specs.Updates.{moment_or}
-use Rattle.row_lists.proofs.Writing.{Filled, fill_starts, fill_goes, fill_ends}
+use Rattle.row_lists.proofs.Writing.{fill_starts, fill_goes, fill_ends}
 use Rattle.update_times.proofs.moment.fill.Goals as goal
 
 pub loop-k-init : goal.loop-k-init

@@ -1,0 +1,2 @@
+-- `Shorter`: the nearest f32 is the library's.
+mod Shorter

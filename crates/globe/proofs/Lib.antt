@@ -1,0 +1,2 @@
+-- `Between`: what a range of floats contains.
+mod Between

@@ -1,0 +1,2 @@
+-- `Sizes`: a size is the library's.
+mod Sizes

@@ -1,2 +1,0 @@
--- `Products`: the sizes of products that the cubics take.
-mod Products

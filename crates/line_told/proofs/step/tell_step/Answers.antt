@@ -1,9 +1,0 @@
--- `line_told::step::tell_step` meets its contract.
-use borrow.Author.Rules.{rules}
-use Rattle.line_told.proofs.step.tell_step.Goals as goal
-
-pub returns-in-To : goal.returns-in-To
-returns-in-To c = rw c.in-To.is
-
-pub returns-in-Refused : goal.returns-in-Refused
-returns-in-Refused c = rw c.in-Refused.is

@@ -1,6 +1,0 @@
--- `oracle_tables::stops` meets its contract.
-
-use Rattle.oracle_tables.proofs.stops.Goals as goal
-
-pub returns : goal.returns
-returns c = rw (c.span-unread.ensures, c.span.ensures, c.span-2.ensures, c.span-3.ensures)

@@ -1,2 +1,0 @@
--- `Built`: the root as it is built of its digits.
-pub mod Built

@@ -1,2 +1,0 @@
--- `Whole`: the whole part of a root.
-pub mod Whole
