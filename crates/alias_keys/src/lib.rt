@@ -4,4 +4,4 @@
 
 mod key; // the trip of a key, of a UUID's keys, of a local journey's keys
 
-pub use key::{or_alias, or_local, or_uuid};
+pub use key::TripIds;

@@ -17,7 +17,6 @@ use Rattle.routes.specs.Route.{route_of, along_of, along_vertices}
 use Rattle.routes.specs.declared.route.Route.{Route}
 use Rattle.polylines.specs.Polyline.{spot_along, polyline_of}
 use Rattle.stop_routes.specs.Routed.{route_between}
-use Rattle.stop_routes.specs.declared.between.Routed.TheVariants.{Over as Routed·over, Nothing as Routed·nothing}
 
 module _ (line : List Point) (frac : Float) where
   -- by distance
@@ -35,11 +34,11 @@ module _ (line : List Point) (frac : Float) where
   agrees_along h = rw (le-ltb (length line) 1 h)
 
   -- between two stops
-  pub agrees_polyline : (prev next : Point) (route : Route) (way : Way) → route_between line prev next ≡ Routed·over route way →
+  pub agrees_polyline : (prev next : Point) (route : Route) (way : Way) → route_between line prev next ≡ Some (record { route = route; way = way }) →
       polyline_of line prev next frac ≡ Some (draw_of line route.part (spot_along line route way frac))
   unfolding polyline_of
   agrees_polyline prev next route way e = rw e
 
-  pub none_without_route : (prev next : Point) → route_between line prev next ≡ Routed·nothing → polyline_of line prev next frac ≡ None
+  pub none_without_route : (prev next : Point) → route_between line prev next ≡ None → polyline_of line prev next frac ≡ None
   unfolding polyline_of
   none_without_route prev next e = rw e

@@ -1,4 +1,5 @@
 -- Along a route a larger fraction gives no earlier place. Assumes nothing.
+use Rattle.std.specs.Prelude.{Option, Some, None}
 use Prim.Native.Nat.{ℕ, suc, ◌-◌, ◌<◌, ◌≤◌}
 use native.Mathlib.Omega.{arith}
 use mathlib.Core.Path.{◌≡◌, refl, ap, subst}
@@ -30,7 +31,6 @@ use Rattle.nearest.specs.Nearest.{nearest_of}
 use Rattle.polylines.specs.Polyline.{spot_along}
 use Rattle.stop_routes.specs.Routed.{roundabout, routed_of, route_between}
 use Rattle.stop_routes.specs.declared.between.Routed.{Routed}
-use Rattle.stop_routes.specs.declared.between.Routed.TheVariants.{Over, Nothing}
 use Rattle.along_order.specs.Order.{rank_of, NoEarlier}
 use Rattle.along_order.specs.Granted.{Lengths}
 use Rattle.along_order.proofs.Clamp.{zero_zero, clamp_above, clamp_mono, Aim}
@@ -210,8 +210,8 @@ abbrev Walks : List Point → Route → Way → Type 0
 Walks line route way = Lengths line route.part → stretches route.part ≤ 4194304 → (f g : Float) → T (le f g) →
     NoEarlier route.part way (spot_along line route way f) (spot_along line route way g)
 
-abbrev Goes : List Point → Routed → Type 0
-Goes line r = (route : Route) (way : Way) → r ≡ Over route way → Walks line route way
+abbrev Goes : List Point → Option Routed → Type 0
+Goes line r = (route : Route) (way : Way) → r ≡ Some (record { route = route; way = way }) → Walks line route way
 
 whole_walks : (line : List Point) (part : Part) (way : Way) → Walks line (route_of line part) way
 unfolding route_of
@@ -221,12 +221,12 @@ routed_goes : (line : List Point) (part : Part) (way : Way) (prev next : Point) 
 unfolding routed_of
 routed_goes line part way prev next = go (lt (route_of line part).total one || roundabout (route_of line part).total prev next)
   where
-    go : (b : Bool) → Goes line (cond b Nothing (Over (route_of line part) way))
+    the : Routed
+    the = record { route = route_of line part; way = way }
+
+    go : (b : Bool) → Goes line (cond b None (Some the))
     go true route w e = absurd (true≢false (cc))
-    go false route w e =
-        let p : route_of line part ≡ route = cc in
-        let q : way ≡ w = cc in
-        subst (λ (r : Route). Walks line r w) p (subst (λ (v : Way). Walks line (route_of line part) v) q (whole_walks line part way))
+    go false route w e = let q : the ≡ record { route = route; way = w } = cc in subst (λ (r : Routed). Walks line r.route r.way) q (whole_walks line part way)
 
 pub never_earlier_polyline : (line : List Point) (prev next : Point) → Goes line (route_between line prev next)
 unfolding route_between
@@ -238,7 +238,7 @@ never_earlier_polyline line prev next = go (ltb i j) (ltb j i)
     j : ℕ
     j = nearest_of line next
 
-    go : (x y : Bool) → Goes line (cond x (routed_of line (record { first = i; last = j }) With prev next) (cond y (routed_of line (record { first = j; last = i }) Against prev next) Nothing))
+    go : (x y : Bool) → Goes line (cond x (routed_of line (record { first = i; last = j }) With prev next) (cond y (routed_of line (record { first = j; last = i }) Against prev next) None))
     go true y = routed_goes line (record { first = i; last = j }) With prev next
     go false true = routed_goes line (record { first = j; last = i }) Against prev next
     go false false = λ route way e. absurd (true≢false (cc))

@@ -5,10 +5,12 @@ use mathlib.Core.Path.{◌≡◌, refl, ap, ◌∙◌}
 use mathlib.Core.List.{List, ◌++◌}
 use borrow.Author.Tests.{eq-eqb, ne_eqb, lt-ltb, le-ltb}
 use lib.ListN.{length, drop}
+use Rattle.std.specs.Prelude.{Result, Ok, Err}
+use Rattle.std.specs.Result.{IsErrAnd}
 use Rattle.refusals.specs.declared.refusal.Refusal.{Refusal}
 use Rattle.refusals.specs.declared.refusal.Refusal.TheVariants.{Columns, Count, Position, Order, Index, Moment, Text, Number, Room, Date}
 use Rattle.refusals.specs.Refusal.{refusal_number}
-use Rattle.refusals.specs.Answer.{Answer, refused, given}
+use Rattle.refusals.specs.Answer.{Answer, refused, given, answer_of}
 use Rattle.answers.specs.Answers.{unless_refused, or_short, unless_kept}
 
 -- a refusal's number is not 0
@@ -34,6 +36,16 @@ module _ {A : Type 0} (n : ℕ) (x : A) where
   -- of a check, of which n is the number
   pub refused_by : (r : Refusal) → refusal_number r ≡ n → refused (refusal_number r) ≡ unless_refused n x
   refused_by r e = ap refused e ∙ denied (λ z. numbered r (e ∙ z))
+
+module _ {A : Type 0} where
+  -- a refusal that `?` hands on, as the answer
+  pub handed : (r : Result A Refusal) (e : Refusal) → IsErrAnd r (λ f. f ≡ e) → answer_of r ≡ refused (refusal_number e)
+  handed (Err f) e h = ap (λ g. refused (refusal_number g)) h
+  handed (Ok y) e h = absurd h
+
+  -- the same, of a check that the answer begins with: its number is the least refusal's
+  pub handed_on : (n : ℕ) (x : A) (r : Result A Refusal) (e : Refusal) → IsErrAnd r (λ f. f ≡ e) → refusal_number e ≡ n → answer_of r ≡ unless_refused n x
+  handed_on n x r e h q = handed r e h ∙ refused_by n x e q
 
 module _ (n rows room : ℕ) where
   pub fits : n ≡ 0 → rows ≤ room → or_short n rows room ≡ 0

@@ -6,8 +6,9 @@ ghost use Rattle.verdicts.specs.Verdict.{least};
 ghost use Rattle.asked_rules.specs.Parts.{journey_causes, service_causes, leg_asked_causes};
 
 use faults::Test;
+use ids::Lent;
 use refusals::Refusal;
-use tables::{Bounds, Journey, LegAsked, Lent, Mark, Pool, Service};
+use tables::{Bounds, Journey, LegAsked, Mark, Pool, Service};
 use verdicts::Verdict;
 
 // What matching is asked of.

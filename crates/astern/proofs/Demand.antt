@@ -1,4 +1,5 @@
 -- The theorems on the estimate of lent tables, refusals included. Assumes nothing.
+use Rattle.std.specs.Prelude.{Option, None}
 use Prim.Native.Nat.{ℕ, zero, suc, ◌<◌, ◌≤◌}
 use native.Mathlib.Omega.{arith}
 use mathlib.Core.Path.{◌≡◌, refl, sym, subst, ◌∙◌}
@@ -19,8 +20,7 @@ use Rattle.best_rows.specs.Serving.{best_below, best_row}
 use Rattle.sailing_rows.specs.Rows.{clock_of}
 use Rattle.estimate_facts.proofs.Asked.{clock_bound, arrivals_bound}
 use Rattle.voyages.specs.Outcome.{outcome_at}
-use Rattle.voyages.specs.declared.record.Outcome.{Outcome}
-use Rattle.voyages.specs.declared.record.Outcome.TheVariants.{Silence}
+use Rattle.voyages.specs.declared.record.Placed.{Placed}
 use Rattle.voyage_order.specs.Agree.{Agrees, Silent}
 use Rattle.voyage_order.specs.Astern.{NotAstern}
 use Rattle.voyage_order.proofs.Agree.{voyage_agrees}
@@ -41,13 +41,13 @@ taken (suc n) x y f = clash (cc (ne_eqb (suc n) 0 (omega arith)))
 
 module _ (p : Pools) (t : Tables) where
   -- where it is accepted, nothing is refused, and it is the voyage's outcome
-  accepted : (o : Outcome) → estimate_of p t ≡ given o → (refusal_of p (estimate_causes chart_bounds t) ≡ 0) × (outcome_at (voyage_of p t) (clock_of p.times t.sailing) ≡ o)
+  accepted : (o : Option Placed) → estimate_of p t ≡ given o → (refusal_of p (estimate_causes chart_bounds t) ≡ 0) × (outcome_at (voyage_of p t) (clock_of p.times t.sailing) ≡ o)
   unfolding estimate_of
   accepted o f = taken (refusal_of p (estimate_causes chart_bounds t)) (outcome_at (voyage_of p t) (clock_of p.times t.sailing)) o f
 
   -- Agreement (demand 2): of every estimate the coordinates are those of the place beside it, bit for bit.
-  pub estimate_agrees : (o : Outcome) → estimate_of p t ≡ given o → Agrees (voyage_of p t) o
-  estimate_agrees o f = subst (λ (q : Outcome). Agrees (voyage_of p t) q) (accepted o f).1 (voyage_agrees (voyage_of p t) (voyage_agreed p t) (clock_of p.times t.sailing))
+  pub estimate_agrees : (o : Option Placed) → estimate_of p t ≡ given o → Agrees (voyage_of p t) o
+  estimate_agrees o f = subst (λ (q : Option Placed). Agrees (voyage_of p t) q) (accepted o f).1 (voyage_agrees (voyage_of p t) (voyage_agreed p t) (clock_of p.times t.sailing))
 
   -- ---- silence
   voyage_silent : SilentCase p t → Silent (voyage_of p t)
@@ -62,13 +62,13 @@ module _ (p : Pools) (t : Tables) where
   silent_case (inr (rows, pin)) = inr (inr (none_mapped _ _ rows, pin))
 
   -- Of tables that are accepted, silence falls where the sailing is cancelled, has no updates, or has no call and its best stop cannot be placed,
-  pub silence_where : refusal_of p (estimate_causes chart_bounds t) ≡ 0 → SilentCase p t → estimate_of p t ≡ given Silence
+  pub silence_where : refusal_of p (estimate_causes chart_bounds t) ≡ 0 → SilentCase p t → estimate_of p t ≡ given None
   unfolding estimate_of
   silence_where e s = rw (e, silent_where (voyage_of p t) (clock_of p.times t.sailing) (voyage_silent s)) refl
 
   -- and only there.
-  pub silence_only : estimate_of p t ≡ given Silence → SilentCase p t
-  silence_only f = silent_case (silent_only (voyage_of p t) (clock_of p.times t.sailing) (accepted Silence f).1)
+  pub silence_only : estimate_of p t ≡ given None → SilentCase p t
+  silence_only f = silent_case (silent_only (voyage_of p t) (clock_of p.times t.sailing) (accepted None f).1)
 
 -- ---- demand 3
 
@@ -79,18 +79,18 @@ first_arrival p t e = omega (arith, arrivals_bound p t e 0)
 module _ (p p' : Pools) (t t' : Tables) where
   -- Demand 3. Two accepted clocks, with its hypotheses: either both give an estimate or neither does, and where both do, the later gives no earlier place.
   pub demand_3 : Hypotheses p p' t t' → clock_of p.times t.sailing ≤ clock_of p'.times t'.sailing →
-      (o o' : Outcome) → estimate_of p t ≡ given o → estimate_of p' t' ≡ given o' → NotAstern o o'
+      (o o' : Option Placed) → estimate_of p t ≡ given o → estimate_of p' t' ≡ given o' → NotAstern o o'
   demand_3 h later o o' f f' =
       let e = accepted p t o f in
       let e' = accepted p' t' o' f' in
       let c = clock_of p.times t.sailing in
       let c' = clock_of p'.times t'.sailing in
       let end : outcome_at (voyage_of p t) c' ≡ o' = sym (outcomes_same h.lent e.0 h.match c') ∙ e'.1 in
-      subst (λ (q : Outcome). NotAstern o q) end (subst (λ (q : Outcome). NotAstern q (outcome_at (voyage_of p t) c')) e.1
+      subst (λ (q : Option Placed). NotAstern o q) end (subst (λ (q : Option Placed). NotAstern q (outcome_at (voyage_of p t) c')) e.1
       (voyage_not_astern (voyage_of p t) (voyage_steady p t e.0 h.voyage) (first_arrival p t e.0) c c' later (omega (arith, clock_bound p' t' e'.0))))
 
   -- The same without what always holds: the static trip and the best stop do not hang on the clock.
   pub never_astern : SameButClock p p' t t' → GrantedVoyage (voyage_of p t) → clock_of p.times t.sailing ≤ clock_of p'.times t'.sailing →
-      (o o' : Outcome) → estimate_of p t ≡ given o → estimate_of p' t' ≡ given o' → NotAstern o o'
+      (o o' : Option Placed) → estimate_of p t ≡ given o → estimate_of p' t' ≡ given o' → NotAstern o o'
   never_astern lent granted later o o' f f' =
       demand_3 (record { lent = lent; match = always_matched lent (accepted p t o f).0; voyage = granted }) later o o' f f'

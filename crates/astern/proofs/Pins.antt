@@ -1,4 +1,5 @@
 -- Where there is a call, what she would be pinned to without one is not read. Assumes nothing.
+use Rattle.std.specs.Prelude.{Some, None}
 use Prim.Native.Nat.{ℕ, suc}
 use native.Mathlib.Omega.{arith}
 use mathlib.Core.Path.{◌≡◌, refl}
@@ -12,7 +13,6 @@ use Rattle.timeline.specs.declared.turn.Turn.{Turn}
 use Rattle.timeline.specs.declared.turn.Turn.TheVariants.{At, Between, Towards, After}
 use Rattle.voyages.specs.Voyage.{Approach, none, over, Pin, Voyage}
 use Rattle.voyages.specs.Outcome.{at_pin, under_way_at, approaching, towards_at, at_turn, outcome_at}
-use Rattle.voyages.specs.declared.record.Outcome.TheVariants.{Silence}
 
 -- the voyage with this pin
 abbrev pub pinned_to : Voyage → Pin → Voyage
@@ -46,7 +46,7 @@ module _ (v : Voyage) (pin : Pin) (clock : ℕ) where
   pin_unread h = go v.arrs refl
     where
       go : (arrs : List ℕ) → v.arrs ≡ arrs →
-          cond v.cancelled Silence (cond (eqb (length arrs) 0) (at_pin pin) (at_turn (pinned_to v pin) clock (turn_of clock v.arrs v.deps))) ≡
-          cond v.cancelled Silence (cond (eqb (length arrs) 0) (at_pin v.pin) (at_turn v clock (turn_of clock v.arrs v.deps)))
+          cond v.cancelled None (cond (eqb (length arrs) 0) (at_pin pin) (Some (at_turn (pinned_to v pin) clock (turn_of clock v.arrs v.deps)))) ≡
+          cond v.cancelled None (cond (eqb (length arrs) 0) (at_pin v.pin) (Some (at_turn v clock (turn_of clock v.arrs v.deps))))
       go [] a = rw (h a)
       go (x ∷ arrs) a = rw (ne_eqb (suc (length arrs)) 0 (omega arith), turn_same (turn_of clock v.arrs v.deps))

@@ -6,6 +6,7 @@ ghost use Rattle.row_distances.specs.Rows.{rows_of};
 ghost use Rattle.backfill.specs.Samples.{added_end, next_ends, ends_of, samples_in};
 
 use calibration::Sample;
+use ids::Lent;
 use lengths::Point;
 use row_distances::Distance;
 use tables::{StopTimes, Stops};
@@ -52,9 +53,7 @@ fn pass(ends: Ends, stop: Option<Point>, row: Distance) -> Ends
 
 // Of n rows of the stop times from `first` on.
 pub(crate) fn ends_of(
-    bytes: &[u8],
-    words: &[u32],
-    reals: &[f64],
+    lent: &Lent,
     stops: Stops,
     calls: StopTimes,
     first: u32,
@@ -64,7 +63,7 @@ pub(crate) fn ends_of(
 ) -> Ends
     requires n_value { n ≡ length dist.now }
     requires n_value_2 { n ≡ length measured.now }
-    ensures { result ≡ ends_of (samples_in (positions_from (row_position bytes.now words.now reals.now stops calls) first n) (rows_of dist.now measured.now)) }
+    ensures { result ≡ ends_of (samples_in (positions_from (row_position lent.now.bytes.now lent.now.words.now lent.now.reals.now stops calls) first n) (rows_of dist.now measured.now)) }
 {
     let from = first as usize;
     let mut ends = Ends::Nothing;
@@ -73,11 +72,7 @@ pub(crate) fn ends_of(
             dist: dist[k],
             measured: measured[k],
         };
-        ends = pass(
-            ends,
-            row_position(bytes, words, reals, stops, calls, from + k),
-            row,
-        );
+        ends = pass(ends, row_position(lent, stops, calls, from + k), row);
     }
     ends
 }

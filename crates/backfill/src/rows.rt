@@ -11,7 +11,8 @@ ghost use Rattle.backfill.specs.Trip.{is_missing, is_measured, unit_of, backfill
 use crate::ends::{Ends, ends_of};
 use calibration::shape_dist_affine;
 use filled_rows::fill;
-use lengths::vertices;
+use ids::Lent;
+use lengths::{Polyline, vertices};
 use row_distances::Unit;
 use tables::{StopTimes, Stops};
 use unit_scales::Affine;
@@ -41,25 +42,22 @@ fn told(c: Option<Affine>) -> Unit
 }
 
 // The unit that the first and the last sample tell.
-fn ends_unit(lat: &[f64], lon: &[f64], ends: Ends) -> Unit
-    ensures { result ≡ ends_unit (line_of lat.now lon.now) ends }
+fn ends_unit(line: Polyline, ends: Ends) -> Unit
+    ensures { result ≡ ends_unit (line_of line.entry.lat.now line.entry.lon.now) ends }
 {
     match ends {
         Ends::Nothing => Unit::Unknown,
         Ends::One(_) => Unit::Unknown,
-        Ends::Both(first, last) => told(shape_dist_affine(lat, lon, first, last)),
+        Ends::Both(first, last) => told(shape_dist_affine(line, first, last)),
     }
 }
 
 // The unit that the missing distances of n rows from `first` on are written in.
 fn unit_of(
-    bytes: &[u8],
-    words: &[u32],
-    reals: &[f64],
+    lent: &Lent,
     stops: Stops,
     calls: StopTimes,
-    lat: &[f64],
-    lon: &[f64],
+    line: Polyline,
     first: u32,
     n: u32,
     dist: &[f32],
@@ -67,27 +65,20 @@ fn unit_of(
 ) -> Unit
     requires n_value { n ≡ length dist.now }
     requires n_value_2 { n ≡ length measured.now }
-    ensures { result ≡ unit_of (line_of lat.now lon.now) (positions_from (row_position bytes.now words.now reals.now stops calls) first n) (rows_of dist.now measured.now) }
+    ensures { result ≡ unit_of (line_of line.entry.lat.now line.entry.lon.now) (positions_from (row_position lent.now.bytes.now lent.now.words.now lent.now.reals.now stops calls) first n) (rows_of dist.now measured.now) }
 {
     if !any_measured(measured) {
         return Unit::Metres;
     }
-    ends_unit(
-        lat,
-        lon,
-        ends_of(bytes, words, reals, stops, calls, first, n, dist, measured),
-    )
+    ends_unit(line, ends_of(lent, stops, calls, first, n, dist, measured))
 }
 
 // Backfill of one trip: n rows of the stop times from `first` on, whose distances and flags are lent, on the line of its shape.
 pub fn backfill_rows(
-    bytes: &[u8],
-    words: &[u32],
-    reals: &[f64],
+    lent: &Lent,
     stops: Stops,
     calls: StopTimes,
-    lat: &[f64],
-    lon: &[f64],
+    line: Polyline,
     first: u32,
     n: u32,
     dist: &mut [f32],
@@ -95,19 +86,15 @@ pub fn backfill_rows(
 )
     requires n_value { n ≡ length dist.old }
     requires n_value_2 { n ≡ length measured.old }
-    ensures dist_after { dist.new ≡ dists_in (backfill_of (line_of lat.now lon.now) (positions_from (row_position bytes.now words.now reals.now stops calls) first n) (rows_of dist.old measured.old)) }
-    ensures measured_after { measured.new ≡ marks_in (backfill_of (line_of lat.now lon.now) (positions_from (row_position bytes.now words.now reals.now stops calls) first n) (rows_of dist.old measured.old)) }
+    ensures dist_after { dist.new ≡ dists_in (backfill_of (line_of line.entry.lat.now line.entry.lon.now) (positions_from (row_position lent.now.bytes.now lent.now.words.now lent.now.reals.now stops calls) first n) (rows_of dist.old measured.old)) }
+    ensures measured_after { measured.new ≡ marks_in (backfill_of (line_of line.entry.lat.now line.entry.lon.now) (positions_from (row_position lent.now.bytes.now lent.now.words.now lent.now.reals.now stops calls) first n) (rows_of dist.old measured.old)) }
 {
-    if vertices(lat, lon) < 2 {
+    if vertices(line) < 2 {
         return;
     }
     if !any_missing(measured) {
         return;
     }
-    let unit = unit_of(
-        bytes, words, reals, stops, calls, lat, lon, first, n, dist, measured,
-    );
-    fill(
-        bytes, words, reals, stops, calls, lat, lon, unit, first, n, dist, measured,
-    );
+    let unit = unit_of(lent, stops, calls, line, first, n, dist, measured);
+    fill(lent, stops, calls, line, unit, first, n, dist, measured);
 }

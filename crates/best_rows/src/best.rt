@@ -2,6 +2,7 @@
 ghost use Rattle.std.specs.Prelude.{◌≡◌};
 ghost use Rattle.best_rows.specs.Serving.{better, has_signal, score_of, best_row};
 
+use ids::Lent;
 use tables::Updates;
 use update_rows::{is_set, is_timed};
 
@@ -17,29 +18,23 @@ fn has_signal(bytes: &[u8], u: Updates, k: usize) -> bool
 
 // A million where row k has a time or a delay, and its sequence.
 #[tactic(auto, unfolding(crate::specs::Serving::score_of))]
-fn score(bytes: &[u8], words: &[u32], u: Updates, k: usize) -> u64
-    ensures { result ≡ score_of bytes.now u words.now k }
+fn score(lent: &Lent, u: Updates, k: usize) -> u64
+    ensures { result ≡ score_of lent.now.bytes.now u lent.now.words.now k }
 {
     let sequence = u.sequence;
-    if has_signal(bytes, u, k) {
-        return 1000000 + ids::cell(words, sequence, k) as u64;
+    if has_signal(lent.bytes, u, k) {
+        return 1000000 + ids::cell(lent.words, sequence, k) as u64;
     }
-    ids::cell(words, sequence, k) as u64
+    ids::cell(lent.words, sequence, k) as u64
 }
 
 // The best so far or, where its score is greater, row k.
-fn better_of(
-    bytes: &[u8],
-    words: &[u32],
-    u: Updates,
-    best: Option<usize>,
-    k: usize,
-) -> Option<usize>
-    ensures { result ≡ better (score_of bytes.now u words.now) best k }
+fn better_of(lent: &Lent, u: Updates, best: Option<usize>, k: usize) -> Option<usize>
+    ensures { result ≡ better (score_of lent.now.bytes.now u lent.now.words.now) best k }
 {
     match best {
         Some(b) => {
-            if score(bytes, words, u, b) < score(bytes, words, u, k) {
+            if score(lent, u, b) < score(lent, u, k) {
                 return Some(k);
             }
             best
@@ -50,13 +45,13 @@ fn better_of(
 
 // The row of the greatest score, the first where several have it; none where there are no updates.
 #[tactic(auto, using(crate::proofs::Bests::best_next), unfolding(crate::specs::Serving::best_row, crate::specs::Serving::best_below))]
-pub fn best_row(bytes: &[u8], words: &[u32], u: Updates) -> Option<usize>
-    ensures { result ≡ best_row bytes.now u words.now }
+pub fn best_row(lent: &Lent, u: Updates) -> Option<usize>
+    ensures { result ≡ best_row lent.now.bytes.now u lent.now.words.now }
 {
     let sequence = u.sequence;
     let mut best = None;
     for k in 0..sequence.n as usize {
-        best = better_of(bytes, words, u, best, k);
+        best = better_of(lent, u, best, k);
     }
     best
 }

@@ -7,8 +7,9 @@ ghost use Rattle.calendar_rules.specs.Parts.{calendars_causes, ranges_causes, ex
 
 use column_order::Key;
 use faults::Test;
+use ids::Lent;
 use refusals::Refusal;
-use tables::{Bounds, Calendars, Exceptions, Lent, Pool, Ranges};
+use tables::{Bounds, Calendars, Exceptions, Pool, Ranges};
 use verdicts::Verdict;
 
 // The feeds that have a calendar.

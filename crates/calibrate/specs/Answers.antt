@@ -8,11 +8,10 @@ use Rattle.verdicts.specs.Refuse.{refusal_of}
 use Rattle.tables.specs.declared.lent.Samples.{Samples}
 use Rattle.answers.specs.Answers.{unless_refused}
 use Rattle.geometry_checks.specs.Operations.{calibration_causes}
-use Rattle.line_answers.specs.Answers.{Perhaps}
 use Rattle.lent_samples.specs.Samples.{first_scale, lent_affine}
 
 -- the unit that a ratio is near: the first of the numbers lent
-unfoldable pub snapped_of : Pools → Samples → Answer (Perhaps Float)
+unfoldable pub snapped_of : Pools → Samples → Answer (Option Float)
 snapped_of p s = unless_refused (refusal_of p (calibration_causes chart_bounds s)) (first_scale (part_of p.reals s.numbers))
 
 -- the metres that the samples' distances stand for

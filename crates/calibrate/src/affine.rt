@@ -1,36 +1,20 @@
 // The metres along a line that the distances of samples stand for.
 ghost use Rattle.std.specs.Prelude.{◌≡◌};
-ghost use Rattle.tables.specs.Pools.{pools};
-ghost use Rattle.line_answers.specs.Answers.{calibration_answer};
+ghost use Rattle.refusals.specs.Answer.{answer_of};
+ghost use Rattle.tables.specs.Pools.{pools_of};
 ghost use Rattle.calibrate.specs.Answers.{calibration_of};
 
 use geometry_checks::check_calibration;
+use ids::Lent;
 use lent_samples::lent_affine;
-use line_answers::{Calibration, metres_answer};
-use refusals::number_or_zero;
-use tables::{Bounds, Lent, Samples};
+use refusals::Refusal;
+use tables::{Bounds, Samples};
+use unit_scales::Affine;
 
 // The metres that distances stand for, or none, or the first refusal that applies.
-pub fn shape_dist_affine(
-    bytes: &[u8],
-    words: &[u32],
-    times: &[i64],
-    reals: &[f64],
-    dists: &[f32],
-    s: Samples,
-) -> Calibration
-    ensures { calibration_answer result ≡ calibration_of (pools bytes.now words.now times.now reals.now dists.now) s }
+pub fn shape_dist_affine(lent: &Lent, s: Samples) -> Result<Option<Affine>, Refusal>
+    ensures { answer_of result ≡ calibration_of (pools_of lent.now) s }
 {
-    let lent = Lent {
-        bytes,
-        words,
-        times,
-        reals,
-        dists,
-    };
-    let refusal = number_or_zero(&check_calibration(&lent, Bounds::chart(), s));
-    if refusal != 0 {
-        return Calibration::Refused(refusal);
-    }
-    metres_answer(lent_affine(reals, dists, s))
+    check_calibration(lent, Bounds::chart(), s)?;
+    Ok(lent_affine(lent, s))
 }

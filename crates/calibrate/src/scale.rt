@@ -1,37 +1,20 @@
 // The unit that a ratio is near.
 ghost use Rattle.std.specs.Prelude.{◌≡◌};
-ghost use Rattle.tables.specs.Pools.{pools};
-ghost use Rattle.line_answers.specs.Answers.{snapped_answer};
+ghost use Rattle.refusals.specs.Answer.{answer_of};
+ghost use Rattle.tables.specs.Pools.{pools_of};
 ghost use Rattle.calibrate.specs.Answers.{snapped_of};
 
 use geometry_checks::check_calibration;
-use lent_samples::scale_answer;
-use line_answers::Snapped;
-use refusals::number_or_zero;
-use tables::{Bounds, Lent, Samples, cut};
+use ids::Lent;
+use lent_samples::first_scale;
+use refusals::Refusal;
+use tables::{Bounds, Samples, cut};
 
 // The metres of the unit that the ratio is near, or the ratio itself. The ratio is the first of the numbers
 // that are lent.
-pub fn snap_unit_scale(
-    bytes: &[u8],
-    words: &[u32],
-    times: &[i64],
-    reals: &[f64],
-    dists: &[f32],
-    s: Samples,
-) -> Snapped
-    ensures { snapped_answer result ≡ snapped_of (pools bytes.now words.now times.now reals.now dists.now) s }
+pub fn snap_unit_scale(lent: &Lent, s: Samples) -> Result<Option<f64>, Refusal>
+    ensures { answer_of result ≡ snapped_of (pools_of lent.now) s }
 {
-    let lent = Lent {
-        bytes,
-        words,
-        times,
-        reals,
-        dists,
-    };
-    let refusal = number_or_zero(&check_calibration(&lent, Bounds::chart(), s));
-    if refusal != 0 {
-        return Snapped::Refused(refusal);
-    }
-    scale_answer(cut(reals, s.numbers))
+    check_calibration(lent, Bounds::chart(), s)?;
+    Ok(first_scale(cut(lent.reals, s.numbers)))
 }

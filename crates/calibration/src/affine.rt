@@ -3,7 +3,7 @@ ghost use Rattle.std.specs.Prelude.{◌≡◌};
 ghost use Rattle.lengths.specs.Line.{line_of};
 ghost use Rattle.calibration.specs.Affine.{shape_dist_affine};
 
-use lengths::{Point, vertices};
+use lengths::{Point, Polyline, vertices};
 use near_vertex::{forward_last_index, forward_shape_index};
 use running_lengths::length_to;
 use unit_scales::{Affine, between};
@@ -17,17 +17,17 @@ pub struct Sample {
 
 // From the first and the last sample of a trip: the first lies at the first vertex near it, the last at
 // the last near it from there on.
-pub fn shape_dist_affine(lat: &[f64], lon: &[f64], first: Sample, last: Sample) -> Option<Affine>
-    ensures { result ≡ shape_dist_affine (line_of lat.now lon.now) first last }
+pub fn shape_dist_affine(line: Polyline, first: Sample, last: Sample) -> Option<Affine>
+    ensures { result ≡ shape_dist_affine (line_of line.entry.lat.now line.entry.lon.now) first last }
 {
-    if vertices(lat, lon) < 2 {
+    if vertices(line) < 2 {
         return None;
     }
     let from = first.at;
     let to = last.at;
-    let i0 = forward_shape_index(lat, lon, 0, from);
-    let i1 = forward_last_index(lat, lon, i0, to);
-    let m0 = length_to(lat, lon, i0);
-    let m1 = length_to(lat, lon, i1);
+    let i0 = forward_shape_index(line, 0, from);
+    let i1 = forward_last_index(line, i0, to);
+    let m0 = length_to(line, i0);
+    let m1 = length_to(line, i1);
     between(first.dist, m0, last.dist, m1)
 }

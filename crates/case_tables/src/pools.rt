@@ -4,6 +4,7 @@ ghost use Rattle.std.specs.Prelude.{◌≡◌, ◌≤◌, OnOk, OnErr};
 use crate::held::Case;
 use crate::place::{IdPlace, put};
 use crate::{layout, limits};
+use ids::Lent;
 
 #[derive(Drop)]
 pub struct Pools<'a> {
@@ -25,6 +26,17 @@ pub enum NotPut {
 }
 
 impl Pools<'_> {
+    // What of them the operations are lent.
+    pub fn lent(&self) -> Lent<'_> {
+        Lent {
+            bytes: self.bytes,
+            words: self.words,
+            times: self.times,
+            reals: self.reals,
+            dists: self.dists,
+        }
+    }
+
     // Puts an id after the others, as a row of a column.
     pub fn put_id(&mut self, column: IdPlace, row: u32, s: &[u8]) -> Result<(), NotPut>
         ensures ok { OnOk result (self.new.held.id_bytes ≤ 131072) }

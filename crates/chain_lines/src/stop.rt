@@ -5,7 +5,7 @@ ghost use Rattle.chain_lines.specs.Stops.{is_between, point_or};
 ghost use Rattle.chain_lines.specs.Chain.{stop_of};
 
 use chain_rows::Chain;
-use ids::cell;
+use ids::{Lent, cell};
 use lengths::Point;
 use tables::{StopTimes, Stops};
 use trip_rows::row_position;
@@ -26,21 +26,13 @@ fn is_between(words: &[u32], c: StopTimes, lo: u32, hi: u32, row: usize) -> bool
 }
 
 // Where the stop of a chain's i-th row is, if its sequence is between.
-pub fn stop_of(
-    bytes: &[u8],
-    words: &[u32],
-    reals: &[f64],
-    s: Stops,
-    c: StopTimes,
-    chain: Chain,
-    i: usize,
-) -> Option<Point>
+pub fn stop_of(lent: &Lent, s: Stops, c: StopTimes, chain: Chain, i: usize) -> Option<Point>
     requires { i < chain.count }
-    ensures { result ≡ stop_of bytes.now words.now reals.now s c chain i }
+    ensures { result ≡ stop_of lent.now.bytes.now lent.now.words.now lent.now.reals.now s c chain i }
 {
     let row = chain.first as usize + i;
-    if is_between(words, c, chain.lo, chain.hi, row) {
-        return row_position(bytes, words, reals, s, c, row);
+    if is_between(lent.words, c, chain.lo, chain.hi, row) {
+        return row_position(lent, s, c, row);
     }
     None
 }

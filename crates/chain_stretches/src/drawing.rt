@@ -3,7 +3,7 @@ ghost use Rattle.std.specs.Prelude.{◌≡◌, [], ◌∷◌};
 ghost use Rattle.stretches.specs.Drawing.{draw_of};
 ghost use Rattle.chain_stretches.specs.Two.{two};
 
-use lengths::Point;
+use lengths::{Point, Polyline};
 use line_parts::Part;
 use stretches::{Drawn, Spot, draw};
 
@@ -13,5 +13,12 @@ pub fn on_two(p: Point, q: Point, spot: Spot) -> Drawn
 {
     let lat = [p.lat, q.lat];
     let lon = [p.lon, q.lon];
-    draw(&lat, &lon, Part { first: 0, last: 1 }, spot)
+    draw(
+        Polyline {
+            lat: &lat,
+            lon: &lon,
+        },
+        Part { first: 0, last: 1 },
+        spot,
+    )
 }

@@ -1,5 +1,6 @@
 -- What a pass over a chain's vertices carries. Definitions only.
-use Rattle.std.specs.Prelude.{ℕ, zero, suc, ◌-◌, ◌<◌, ◌≤◌, Bool, cond, List, [], ◌∷◌, map, ◌≡◌, length, drop, Option}
+use Rattle.std.specs.Prelude.{ℕ, zero, suc, ◌-◌, ◌<◌, ◌≤◌, Bool, cond, List, [], ◌∷◌, map, ◌≡◌, length, ltb, drop, Option}
+use Rattle.lengths.specs.Line.{nowhere}
 use Rattle.lengths.specs.declared.line.Point.{Point}
 use Rattle.line_parts.specs.Part.{at}
 use Rattle.chain_rows.specs.declared.chain.Chain.{Chain}
@@ -9,6 +10,14 @@ use Rattle.chain_lines.specs.Stops.{point_or, points_below}
 use Rattle.chain_lines.specs.Chain.{line_from}
 use Rattle.chain_lines.specs.Kept.{row_kept}
 use Rattle.chain_vertices.specs.Marks.{is_marked}
+
+-- how many vertices a chain has, where so many stops are kept
+abbrev pub vertices_of : ℕ → ℕ
+vertices_of kept = cond (ltb kept 2) 2 kept
+
+-- past the last vertex
+abbrev pub past_all : Here
+past_all = record { left = 0; at = nowhere }
 
 -- the row that has m rows ahead of it, in the chain's direction
 abbrev pub row_of : Chain → ℕ → ℕ

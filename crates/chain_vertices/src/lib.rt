@@ -3,7 +3,7 @@
 #![tactic(auto)]
 
 mod marks; // a bit a row
-mod vertices; // from a vertex of a chain to the next
+mod vertices; // a marked chain, and from a vertex of it to the next
 
 pub use marks::mark;
-pub use vertices::{Here, onward, seek};
+pub use vertices::{Here, MarkedChain};

@@ -7,6 +7,7 @@ ghost use Rattle.chain_vertices.specs.Marks.{is_marked, put_of, Marked};
 
 use chain_lines::{Last, after, keeps, no_point, stop_of};
 use chain_rows::Chain;
+use ids::Lent;
 use tables::{StopTimes, Stops};
 
 // Sets bit i to `bit`, of a word that has none from it on.
@@ -29,26 +30,18 @@ pub fn marked(marks: &[u64], i: usize) -> bool
 }
 
 // Marks the rows that are kept, and says how many they are.
-pub fn mark(
-    bytes: &[u8],
-    words: &[u32],
-    reals: &[f64],
-    s: Stops,
-    c: StopTimes,
-    chain: Chain,
-    marks: &mut [u64],
-) -> usize
+pub fn mark(lent: &Lent, s: Stops, c: StopTimes, chain: Chain, marks: &mut [u64]) -> usize
     requires count_bound { chain.count ≤ 64 * length marks.old }
     requires by_index { (w : ℕ) → get_or marks.old w 0 ≡ 0 }
-    ensures value { result ≡ length (thinned (points_below (stop_of bytes.now words.now reals.now s c chain) chain.count)) }
-    ensures marked { Marked (stop_of bytes.now words.now reals.now s c chain) chain.count marks.new }
+    ensures value { result ≡ length (thinned (points_below (stop_of lent.now.bytes.now lent.now.words.now lent.now.reals.now s c chain) chain.count)) }
+    ensures marked { Marked (stop_of lent.now.bytes.now lent.now.words.now lent.now.reals.now s c chain) chain.count marks.new }
 {
     let mut last = Last {
         kept: 0,
         at: no_point(),
     };
     for i in 0..chain.count as usize {
-        let stop = stop_of(bytes, words, reals, s, c, chain, i);
+        let stop = stop_of(lent, s, c, chain, i);
         let keep = keeps(last, stop);
         put(marks, i, keep);
         last = after(last, stop, keep);

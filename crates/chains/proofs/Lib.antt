@@ -1,2 +1,2 @@
--- `Whole`: the whole of a chain, by the stops that are kept.
-pub mod Whole
+-- `Zeros`: an array of zeros.
+pub mod Zeros

@@ -1,5 +1,5 @@
 -- A route over a leg's chain, and where the chain is at a fraction of it. Definitions only.
-use Rattle.std.specs.Prelude.{ℕ, cond, List, ltb, Float}
+use Rattle.std.specs.Prelude.{List, Float}
 use Rattle.lengths.specs.declared.line.Point.{Point}
 use Rattle.line_parts.specs.Part.{whole_of}
 use Rattle.stretches.specs.Drawing.{draw_of}
@@ -10,10 +10,6 @@ use Rattle.chains.specs.declared.questions.OnChain.{OnChain}
 -- the whole of it, with its length
 unfoldable pub chain_route : List Point → Route
 chain_route line = route_of line (whole_of line)
-
--- how many vertices a chain has, where so many stops are kept
-abbrev pub vertices_of : ℕ → ℕ
-vertices_of kept = cond (ltb kept 2) 2 kept
 
 -- where a line is at a fraction of a route over it: the spot, and the position there
 unfoldable pub on_chain : List Point → Route → Float → OnChain

@@ -2,12 +2,12 @@
 // where they are few.
 ghost use Rattle.std.specs.Prelude.{◌≡◌, ℕ, ◌*◌, ◌≤◌, length, get_or};
 ghost use Rattle.chain_lines.specs.Chain.{chain_line};
-ghost use Rattle.chains.specs.Route.{chain_route, on_chain, vertices_of};
+ghost use Rattle.chains.specs.Route.{chain_route, on_chain};
 
 use chain_rows::Chain;
 use chain_spots::{along, drawn, length_of};
-use chain_vertices::mark;
-use line_parts::Part;
+use chain_vertices::{MarkedChain, mark};
+use ids::Lent;
 use routes::Route;
 use stretches::{Drawn, Spot};
 use tables::{StopTimes, Stops};
@@ -19,46 +19,24 @@ pub struct OnChain {
     pub drawn: Drawn,
 }
 
-// How many vertices a chain has, where so many stops are kept.
-fn vertices_of(kept: usize) -> usize
-    ensures { result ≡ vertices_of kept }
-{
-    if kept < 2 {
-        return 2;
-    }
-    kept
-}
-
 // The whole of a chain with its length, with marks that are clear.
-fn route_in(
-    bytes: &[u8],
-    words: &[u32],
-    reals: &[f64],
-    s: Stops,
-    c: StopTimes,
-    chain: Chain,
-    marks: &mut [u64],
-) -> Route
+fn route_in(lent: &Lent, s: Stops, c: StopTimes, chain: Chain, marks: &mut [u64]) -> Route
     requires count_bound { chain.count ≤ 64 * length marks.old }
     requires by_index { (w : ℕ) → get_or marks.old w 0 ≡ 0 }
-    ensures { result ≡ chain_route (chain_line bytes.now words.now reals.now s c chain) }
+    ensures { result ≡ chain_route (chain_line lent.now.bytes.now lent.now.words.now lent.now.reals.now s c chain) }
 {
-    let n = vertices_of(mark(bytes, words, reals, s, c, chain, marks));
-    let part = Part {
-        first: 0,
-        last: n - 1,
-    };
+    let kept = mark(lent, s, c, chain, marks);
+    let line = MarkedChain::new(lent, s, c, chain, marks, kept);
+    let part = line.whole();
     Route {
         part,
-        total: length_of(bytes, words, reals, s, c, chain, marks, n, part),
+        total: length_of(&line, part),
     }
 }
 
 // Where a chain is at a fraction of its length, with marks that are clear.
 fn walk_in(
-    bytes: &[u8],
-    words: &[u32],
-    reals: &[f64],
+    lent: &Lent,
     s: Stops,
     c: StopTimes,
     chain: Chain,
@@ -68,42 +46,33 @@ fn walk_in(
 ) -> OnChain
     requires count_bound { chain.count ≤ 64 * length marks.old }
     requires by_index { (w : ℕ) → get_or marks.old w 0 ≡ 0 }
-    ensures { result ≡ on_chain (chain_line bytes.now words.now reals.now s c chain) route f }
+    ensures { result ≡ on_chain (chain_line lent.now.bytes.now lent.now.words.now lent.now.reals.now s c chain) route f }
 {
-    let n = vertices_of(mark(bytes, words, reals, s, c, chain, marks));
-    let spot = along(bytes, words, reals, s, c, chain, marks, n, route, f);
-    let part = route.part;
+    let kept = mark(lent, s, c, chain, marks);
+    let line = MarkedChain::new(lent, s, c, chain, marks, kept);
+    let spot = along(&line, route, f);
     OnChain {
         spot,
-        drawn: drawn(bytes, words, reals, s, c, chain, marks, n, part, spot),
+        drawn: drawn(&line, route.part, spot),
     }
 }
 
 // The whole of a chain with its length.
-pub fn chain_route(
-    bytes: &[u8],
-    words: &[u32],
-    reals: &[f64],
-    s: Stops,
-    c: StopTimes,
-    chain: Chain,
-) -> Route
+pub fn chain_route(lent: &Lent, s: Stops, c: StopTimes, chain: Chain) -> Route
     requires { chain.count ≤ 1000000 }
-    ensures { result ≡ chain_route (chain_line bytes.now words.now reals.now s c chain) }
+    ensures { result ≡ chain_route (chain_line lent.now.bytes.now lent.now.words.now lent.now.reals.now s c chain) }
 {
     if chain.count <= 256 {
         let mut few = [0u64; 4];
-        return route_in(bytes, words, reals, s, c, chain, &mut few);
+        return route_in(lent, s, c, chain, &mut few);
     }
     let mut marks = [0u64; 15625];
-    route_in(bytes, words, reals, s, c, chain, &mut marks)
+    route_in(lent, s, c, chain, &mut marks)
 }
 
 // Where a chain is at a fraction of its length: the spot, and the position there.
 pub fn chain_walk(
-    bytes: &[u8],
-    words: &[u32],
-    reals: &[f64],
+    lent: &Lent,
     s: Stops,
     c: StopTimes,
     chain: Chain,
@@ -111,12 +80,12 @@ pub fn chain_walk(
     f: f64,
 ) -> OnChain
     requires { chain.count ≤ 1000000 }
-    ensures { result ≡ on_chain (chain_line bytes.now words.now reals.now s c chain) route f }
+    ensures { result ≡ on_chain (chain_line lent.now.bytes.now lent.now.words.now lent.now.reals.now s c chain) route f }
 {
     if chain.count <= 256 {
         let mut few = [0u64; 4];
-        return walk_in(bytes, words, reals, s, c, chain, &mut few, route, f);
+        return walk_in(lent, s, c, chain, &mut few, route, f);
     }
     let mut marks = [0u64; 15625];
-    walk_in(bytes, words, reals, s, c, chain, &mut marks, route, f)
+    walk_in(lent, s, c, chain, &mut marks, route, f)
 }

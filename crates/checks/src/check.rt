@@ -7,8 +7,9 @@ ghost use Rattle.verdicts.specs.Verdict.{least};
 ghost use Rattle.checks.specs.Operations.{calendar_tables_causes, trip_lookup_causes, service_day_causes, matching_causes, estimate_causes};
 
 use geometry_checks::geometry;
+use ids::Lent;
 use refusals::Refusal;
-use tables::{Bounds, Journey, Lent, Service, Tables};
+use tables::{Bounds, Journey, Service, Tables};
 use verdicts::Verdict;
 
 // The calendars, ranges and exceptions.

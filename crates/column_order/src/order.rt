@@ -8,7 +8,7 @@ ghost use Rattle.column_order.specs.Order.{cmp_rows, out_of_order_at};
 ghost use Rattle.column_order.specs.declared.order.Key.TheVariants.{Dated, IdWord, Ids};
 
 use columns::bit;
-use ids::{IdColumn, Span, cell, compare, id};
+use ids::{IdColumn, Lent, Span, cell, compare, id};
 use std::cmp::Ordering;
 
 // What a table's rows ascend by. Columns of numbers are spans of the words.
@@ -47,81 +47,72 @@ fn by_word(words: &[u32], s: Span, i: usize, j: usize) -> Ordering
 }
 
 // How row i's id stands to row j's.
-fn by_id(bytes: &[u8], words: &[u32], a: IdColumn, i: usize, j: usize) -> Ordering
-    ensures { result ≡ cmp (id_of bytes.now words.now a i) (id_of bytes.now words.now a j) }
+fn by_id(lent: &Lent, a: IdColumn, i: usize, j: usize) -> Ordering
+    ensures { result ≡ cmp (id_of lent.now.bytes.now lent.now.words.now a i) (id_of lent.now.bytes.now lent.now.words.now a j) }
 {
-    compare(id(bytes, words, a, i), id(bytes, words, a, j))
+    compare(id(lent, a, i), id(lent, a, j))
 }
 
 // By an id, then a number.
-fn by_id_word(bytes: &[u8], words: &[u32], a: IdColumn, s: Span, i: usize, j: usize) -> Ordering
-    ensures { result ≡ cmp_rows bytes.now words.now (IdWord a s) i j }
+fn by_id_word(lent: &Lent, a: IdColumn, s: Span, i: usize, j: usize) -> Ordering
+    ensures { result ≡ cmp_rows lent.now.bytes.now lent.now.words.now (IdWord a s) i j }
 {
-    match by_id(bytes, words, a, i, j) {
+    match by_id(lent, a, i, j) {
         Ordering::Less => return Ordering::Less,
         Ordering::Equal => {}
         Ordering::Greater => return Ordering::Greater,
     }
-    by_word(words, s, i, j)
+    by_word(lent.words, s, i, j)
 }
 
 // By two ids.
-fn by_ids(bytes: &[u8], words: &[u32], a: IdColumn, b: IdColumn, i: usize, j: usize) -> Ordering
-    ensures { result ≡ cmp_rows bytes.now words.now (Ids a b) i j }
+fn by_ids(lent: &Lent, a: IdColumn, b: IdColumn, i: usize, j: usize) -> Ordering
+    ensures { result ≡ cmp_rows lent.now.bytes.now lent.now.words.now (Ids a b) i j }
 {
-    match by_id(bytes, words, a, i, j) {
+    match by_id(lent, a, i, j) {
         Ordering::Less => return Ordering::Less,
         Ordering::Equal => {}
         Ordering::Greater => return Ordering::Greater,
     }
-    by_id(bytes, words, b, i, j)
+    by_id(lent, b, i, j)
 }
 
 // By two ids, then a number, then a flag.
-fn by_date(
-    bytes: &[u8],
-    words: &[u32],
-    a: IdColumn,
-    b: IdColumn,
-    s: Span,
-    f: Span,
-    i: usize,
-    j: usize,
-) -> Ordering
-    ensures { result ≡ cmp_rows bytes.now words.now (Dated a b s f) i j }
+fn by_date(lent: &Lent, a: IdColumn, b: IdColumn, s: Span, f: Span, i: usize, j: usize) -> Ordering
+    ensures { result ≡ cmp_rows lent.now.bytes.now lent.now.words.now (Dated a b s f) i j }
 {
-    match by_ids(bytes, words, a, b, i, j) {
+    match by_ids(lent, a, b, i, j) {
         Ordering::Less => return Ordering::Less,
         Ordering::Equal => {}
         Ordering::Greater => return Ordering::Greater,
     }
-    match by_word(words, s, i, j) {
+    match by_word(lent.words, s, i, j) {
         Ordering::Less => return Ordering::Less,
         Ordering::Equal => {}
         Ordering::Greater => return Ordering::Greater,
     }
-    numbers(bit(bytes, f, i), bit(bytes, f, j))
+    numbers(bit(lent.bytes, f, i), bit(lent.bytes, f, j))
 }
 
 // How row i stands to row j.
-pub fn compare_rows(bytes: &[u8], words: &[u32], key: Key, i: usize, j: usize) -> Ordering
-    ensures { result ≡ cmp_rows bytes.now words.now key i j }
+pub fn compare_rows(lent: &Lent, key: Key, i: usize, j: usize) -> Ordering
+    ensures { result ≡ cmp_rows lent.now.bytes.now lent.now.words.now key i j }
 {
     match key {
-        Key::Word(s) => by_word(words, s, i, j),
-        Key::Id(a) => by_id(bytes, words, a, i, j),
-        Key::IdWord(a, s) => by_id_word(bytes, words, a, s, i, j),
-        Key::Ids(a, b) => by_ids(bytes, words, a, b, i, j),
-        Key::Dated(a, b, s, f) => by_date(bytes, words, a, b, s, f, i, j),
+        Key::Word(s) => by_word(lent.words, s, i, j),
+        Key::Id(a) => by_id(lent, a, i, j),
+        Key::IdWord(a, s) => by_id_word(lent, a, s, i, j),
+        Key::Ids(a, b) => by_ids(lent, a, b, i, j),
+        Key::Dated(a, b, s, f) => by_date(lent, a, b, s, f, i, j),
     }
 }
 
 // Whether some of n rows does not come before the next.
-pub fn unsorted(bytes: &[u8], words: &[u32], key: Key, n: usize) -> bool
-    ensures { result ≡ some (out_of_order_at bytes.now words.now key) (n - 1) }
+pub fn unsorted(lent: &Lent, key: Key, n: usize) -> bool
+    ensures { result ≡ some (out_of_order_at lent.now.bytes.now lent.now.words.now key) (n - 1) }
 {
     columns::some_row(
         n.saturating_sub(1),
-        |k| !matches!(compare_rows(bytes, words, key, k, k + 1), Ordering::Less),
+        |k| !matches!(compare_rows(lent, key, k, k + 1), Ordering::Less),
     )
 }

@@ -1,5 +1,5 @@
 // How far a departure is from the count of seconds that it is compared with, and which of two is nearer. Seconds are signed.
-ghost use Rattle.std.specs.Prelude.{◌≡◌, nat_abs, ◌-ℤ◌};
+ghost use Rattle.std.specs.Prelude.{◌≡◌, nat_abs, ◌-ℤ◌, ltb};
 ghost use Rattle.departure_fits.specs.Departures.{since, away, near, nearer, if_runs};
 
 use day_counts::delta;
@@ -11,11 +11,11 @@ pub struct Count {
     pub second: u32,
 }
 
-// A departure and the count of seconds that it is compared with, or none.
+// A departure, by its second, and the count of seconds that it is compared with.
 #[derive(Clone, Copy)]
-pub enum Fit {
-    Never,
-    By(u32, u32),
+pub struct Fit {
+    pub second: u32,
+    pub count: u32,
 }
 
 // The seconds from its count to a departure: negative where it departs before.
@@ -40,55 +40,44 @@ fn seconds_apart(s: u32, c: u32, t: u32, d: u32) -> u64
 }
 
 // How far from its count a departure is; 901 seconds, which is too far, where there is none.
-pub fn away_of(fit: Fit) -> u64
+pub fn away_of(fit: Option<Fit>) -> u64
     ensures { result ≡ away fit }
 {
     match fit {
-        Fit::Never => 901,
-        Fit::By(s, count) => seconds_away(s, count),
+        Some(fit) => seconds_away(fit.second, fit.count),
+        None => 901,
     }
 }
 
 // Whether two departures are within two minutes of each other.
-pub fn are_near(a: Fit, b: Fit) -> bool
+pub fn are_near(a: Option<Fit>, b: Option<Fit>) -> bool
     ensures { result ≡ near a b }
 {
-    match a {
-        Fit::Never => false,
-        Fit::By(s, c) => {
-            match b {
-                Fit::Never => false,
-                Fit::By(t, d) => seconds_apart(s, c, t, d) <= 120,
-            }
-        }
+    match (a, b) {
+        (Some(a), Some(b)) => seconds_apart(a.second, a.count, b.second, b.count) <= 120,
+        _ => false,
     }
+}
+
+// Whether the second is strictly nearer.
+fn is_nearer(a: Fit, b: Fit) -> bool
+    ensures { result ≡ ltb (nat_abs (since b.second b.count)) (nat_abs (since a.second a.count)) }
+{
+    seconds_away(b.second, b.count) < seconds_away(a.second, a.count)
 }
 
 // The first, unless the second is strictly nearer or the only one.
-pub fn nearer_of(a: Fit, b: Fit) -> Fit
+pub fn nearer_of(a: Option<Fit>, b: Option<Fit>) -> Option<Fit>
     ensures { result ≡ nearer a b }
 {
-    match a {
-        Fit::Never => b,
-        Fit::By(s, c) => {
-            match b {
-                Fit::Never => a,
-                Fit::By(t, d) => {
-                    if seconds_away(t, d) < seconds_away(s, c) {
-                        return b;
-                    }
-                    a
-                }
-            }
-        }
+    match (a, b) {
+        (Some(x), Some(y)) => Some(if is_nearer(x, y) { y } else { x }),
+        _ => a.or(b),
     }
 }
 
-pub fn fit_if(there: bool, s: u32, count: u32) -> Fit
-    ensures { result ≡ if_runs there s count }
+pub fn fit_if(there: bool, second: u32, count: u32) -> Option<Fit>
+    ensures { result ≡ if_runs there second count }
 {
-    if there {
-        return Fit::By(s, count);
-    }
-    Fit::Never
+    there.then_some(Fit { second, count })
 }

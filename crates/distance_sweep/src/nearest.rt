@@ -6,7 +6,7 @@ ghost use Rattle.sphere_lengths.specs.Length.{way_of};
 ghost use Rattle.reach.specs.Reach.{Beyond};
 ghost use Rattle.distance_sweep.specs.Nearest.{Nears, bound_of, next_of};
 
-use lengths::{Point, vertices};
+use lengths::{Point, Polyline, vertices};
 use maths::{cos, radians};
 use reach::is_beyond;
 use sphere_lengths::way;
@@ -63,10 +63,10 @@ fn nearer(near: Nearest, a: f64, next: usize, left: usize) -> Nearest
 
 // Over the vertices from `at` on. A distance that is NaN is never the least, which is infinity where
 // there is no other.
-pub fn sweep(lat: &[f64], lon: &[f64], stop: Point, at: usize) -> Nearest
-    ensures { Nears stop (line_of lat.now lon.now) at result }
+pub fn sweep(line: Polyline, stop: Point, at: usize) -> Nearest
+    ensures { Nears stop (line_of line.entry.lat.now line.entry.lon.now) at result }
 {
-    let n = vertices(lat, lon);
+    let n = vertices(line);
     let c = cos(radians(stop.lat));
     let mut near = Nearest {
         best: f64::INFINITY,
@@ -76,7 +76,7 @@ pub fn sweep(lat: &[f64], lon: &[f64], stop: Point, at: usize) -> Nearest
         mark: f64::INFINITY,
     };
     for k in at..n {
-        near = nearer(near, aside(lat, lon, stop, c, k), k + 1, n - k - 1);
+        near = nearer(near, aside(line, stop, c, k), k + 1, n - k - 1);
     }
     near
 }

@@ -1,4 +1,5 @@
 -- What an estimate comes to, of what its callees ensure. Assumes nothing.
+use Rattle.std.specs.Prelude.{Some, None}
 use Prim.Native.Nat.{ℕ}
 use mathlib.Core.Path.{◌≡◌, sym, ap, ◌∙◌}
 use mathlib.Core.Bool.{true, false}
@@ -15,7 +16,6 @@ use Rattle.best_rows.specs.Serving.{best_row}
 use Rattle.sailing_rows.specs.Rows.{is_cancelled, clock_of}
 use Rattle.sailings.specs.Sailing.{sailing_trip}
 use Rattle.voyages.specs.Outcome.{at_pin, at_turn, outcome_at}
-use Rattle.voyages.specs.declared.record.Outcome.TheVariants.{Silence}
 use Rattle.plans.specs.Plan.{pin_at, voyage_from, voyage_of}
 use Rattle.estimate.specs.Answers.{called_of}
 
@@ -52,7 +52,7 @@ module _ (p : Pools) (t : Tables) where
   arrivals_count = length-map (call_rows p.bytes p.words (reported_of t)) (arrival_of p.bytes t.updates p.times)
 
   -- cancelled; without a call; with one
-  pub outcome_cancelled : is_cancelled p.bytes t.sailing ≡ true → Silence ≡ outcome_at (voyage_of p t) (clock_of p.times t.sailing)
+  pub outcome_cancelled : is_cancelled p.bytes t.sailing ≡ true → None ≡ outcome_at (voyage_of p t) (clock_of p.times t.sailing)
   unfolding outcome_at voyage_of voyage_from
   outcome_cancelled c = rw c
 
@@ -62,6 +62,6 @@ module _ (p : Pools) (t : Tables) where
   outcome_pinned c n f e = rw (c, arrivals_count, eq-eqb (length (call_rows p.bytes p.words (reported_of t))) 0 (sym f ∙ e))
 
   pub outcome_called : is_cancelled p.bytes t.sailing ≡ false → (n : ℕ) → n ≡ length (call_rows p.bytes p.words (reported_of t)) → (n ≡ 0 → ⊥) →
-      called_of p t ≡ outcome_at (voyage_of p t) (clock_of p.times t.sailing)
+      Some (called_of p t) ≡ outcome_at (voyage_of p t) (clock_of p.times t.sailing)
   unfolding outcome_at voyage_of voyage_from called_of
   outcome_called c n f e = rw (c, arrivals_count, ne_eqb (length (call_rows p.bytes p.words (reported_of t))) 0 (λ g. e (f ∙ g)))

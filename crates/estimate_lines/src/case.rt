@@ -8,14 +8,7 @@ use std::io::Read;
 // Writes the line of the case that the pools hold.
 fn print_line(out: &impl Print, err: &impl Print, pools: &Pools) -> io::Result<()> {
     let t = case_tables::tables(pools.held);
-    let answer = estimate(
-        pools.bytes,
-        pools.words,
-        pools.times,
-        pools.reals,
-        pools.dists,
-        t,
-    );
+    let answer = estimate(&pools.lent(), t);
     estimate_words::print_board(out, err, pools, answer)
 }
 

@@ -1,5 +1,5 @@
 -- An estimate's answer as numbers, for C. Definitions only.
-use Rattle.std.specs.Prelude.{ℕ, cond}
+use Rattle.std.specs.Prelude.{ℕ, Float, Option, Some, None}
 use Rattle.floats.specs.Number.{nought}
 use Rattle.refusals.specs.Answer.{Answer, refused, given}
 use Rattle.ways.specs.declared.way.Way.{Way}
@@ -11,8 +11,7 @@ use Rattle.legs.specs.declared.place.Place.TheVariants.{Call, Start, End, Stretc
 use Rattle.paths.specs.declared.status.Status.{Status}
 use Rattle.paths.specs.declared.status.Status.TheVariants.{StoppedAt, IncomingAt, OnShape, OnStopChain, InTransitTo}
 use Rattle.voyages.specs.declared.record.Estimate.{Estimate}
-use Rattle.voyages.specs.declared.record.Outcome.{Outcome}
-use Rattle.voyages.specs.declared.record.Outcome.TheVariants.{At, Silence}
+use Rattle.voyages.specs.declared.record.Placed.{Placed}
 use Rattle.estimate_told.specs.declared.answer.PlaceTold.{PlaceTold}
 use Rattle.estimate_told.specs.declared.answer.Told.{Told}
 
@@ -40,17 +39,26 @@ place_told (End k) = record { fraction = nought; vertex = 0; kind = 3; number = 
 place_told (Stretch k line way vertex t) = record { fraction = t; vertex = vertex; kind = 4; number = k; line = line_number line; way = way_number way }
 place_told (NoStretch k line way) = record { fraction = nought; vertex = 0; kind = 5; number = k; line = line_number line; way = way_number way }
 
+-- the bearing, or 0 where there is none; and 1 where there is one
+abbrev pub bearing_told : Option Float → Float
+bearing_told (Some bearing) = bearing
+bearing_told None = nought
+
+abbrev pub bears_told : Option Float → ℕ
+bears_told (Some bearing) = 1
+bears_told None = 0
+
 -- an estimate and its place
 abbrev pub estimate_told : Estimate → Place → Told
 estimate_told e place =
     record {
       lat = e.lat;
       lon = e.lon;
-      bearing = e.bearing;
+      bearing = bearing_told e.bearing;
       stop = e.stop;
       sequence = e.sequence;
       status = status_number e.status;
-      bears = cond e.bears 1 0;
+      bears = bears_told e.bearing;
       answered = 1;
       refusal = 0;
       place = place_told place;
@@ -73,7 +81,7 @@ unanswered n =
     }
 
 -- the whole answer
-abbrev pub told_of : Answer Outcome → Told
-told_of (given (At e place)) = estimate_told e place
-told_of (given Silence) = unanswered 0
+abbrev pub told_of : Answer (Option Placed) → Told
+told_of (given (Some placed)) = estimate_told placed.estimate placed.place
+told_of (given None) = unanswered 0
 told_of (refused n) = unanswered n

@@ -1,12 +1,12 @@
 // An estimate's answer as numbers.
 ghost use Rattle.std.specs.Prelude.{◌≡◌};
-ghost use Rattle.estimate_answers.specs.Answers.{estimate_answer};
+ghost use Rattle.refusals.specs.Answer.{answer_of};
 ghost use Rattle.estimate_told.specs.Told.{status_number, line_number, way_number, place_told, estimate_told, unanswered, told_of};
 
-use estimate_answers::Estimated;
 use legs::Place;
 use paths::{Line, Status};
-use voyages::Estimate;
+use refusals::Refusal;
+use voyages::{Estimate, Placed};
 use ways::Way;
 
 // Where an estimate is, by document 01's place. `kind`: 1 at call `number`; 2 at the start of leg `number`; 3 at
@@ -127,11 +127,11 @@ fn estimate_told(e: Estimate, place: Place) -> Told
     Told {
         lat: e.lat,
         lon: e.lon,
-        bearing: e.bearing,
+        bearing: e.bearing.unwrap_or(0.0),
         stop: e.stop as u64,
         sequence: e.sequence,
         status: status_number(e.status),
-        bears: u32::from(e.bears),
+        bears: u32::from(e.bearing.is_some()),
         answered: 1,
         refusal: 0,
         place: place_told(place),
@@ -157,12 +157,12 @@ fn unanswered(refusal: u32) -> Told
 }
 
 // The whole answer.
-pub fn tell(e: Estimated) -> Told
-    ensures { result ≡ told_of (estimate_answer e) }
+pub fn tell(answer: Result<Option<Placed>, Refusal>) -> Told
+    ensures { result ≡ told_of (answer_of answer) }
 {
-    match e {
-        Estimated::At(e, place) => estimate_told(e, place),
-        Estimated::Silence => unanswered(0),
-        Estimated::Refused(n) => unanswered(n),
+    match answer {
+        Ok(Some(placed)) => estimate_told(placed.estimate, placed.place),
+        Ok(None) => unanswered(0),
+        Err(refusal) => unanswered(refusal.number()),
     }
 }

@@ -1,10 +1,10 @@
 // The Board's line: the estimate, silence or a refusal.
 use case_tables::{Pools, layout};
-use estimate_answers::Estimated;
 use float_bits::bits_of_f64;
 use paths::Status;
+use refusals::Refusal;
 use std::io;
-use voyages::Estimate;
+use voyages::{Estimate, Placed};
 
 // A status, as the Rust names it.
 fn status(status: Status) -> &'static str {
@@ -23,12 +23,11 @@ fn line(out: &impl Print, pools: &Pools, e: Estimate) -> io::Result<()> {
     let lat = bits_of_f64(e.lat);
     let lon = bits_of_f64(e.lon);
     print!(out; "(at {} ", e.sequence)?;
-    case_answers::print_id(out, ids::id(pools.bytes, pools.words, own, e.stop))?;
+    case_answers::print_id(out, ids::id(&pools.lent(), own, e.stop))?;
     print!(out; " {status} {lat:016x} {lon:016x} ")?;
-    if e.bears {
-        println!(out; "{:016x})", bits_of_f64(e.bearing))
-    } else {
-        println!(out; "-)")
+    match e.bearing {
+        Some(bearing) => println!(out; "{:016x})", bits_of_f64(bearing)),
+        None => println!(out; "-)"),
     }
 }
 
@@ -37,11 +36,11 @@ pub fn print_board(
     out: &impl Print,
     err: &impl Print,
     pools: &Pools,
-    answer: Estimated,
+    answer: Result<Option<Placed>, Refusal>,
 ) -> io::Result<()> {
     match answer {
-        Estimated::At(e, _) => line(out, pools, e),
-        Estimated::Silence => case_answers::print_none(out),
-        Estimated::Refused(n) => case_answers::print_refusal(out, err, n),
+        Ok(Some(placed)) => line(out, pools, placed.estimate),
+        Ok(None) => case_answers::print_none(out),
+        Err(refusal) => case_answers::print_refusal(out, err, refusal.number()),
     }
 }

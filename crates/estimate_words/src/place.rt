@@ -1,9 +1,10 @@
 // The place beside the estimate.
-use estimate_answers::Estimated;
 use float_bits::bits_of_f64;
 use legs::Place;
 use paths::Line;
+use refusals::Refusal;
 use std::io;
+use voyages::Placed;
 use ways::Way;
 
 fn path(line: Line) -> &'static str {
@@ -37,10 +38,14 @@ fn line(out: &impl Print, place: Place) -> io::Result<()> {
 }
 
 // Writes the place of an answer.
-pub fn print_place(out: &impl Print, err: &impl Print, answer: Estimated) -> io::Result<()> {
+pub fn print_place(
+    out: &impl Print,
+    err: &impl Print,
+    answer: Result<Option<Placed>, Refusal>,
+) -> io::Result<()> {
     match answer {
-        Estimated::At(_, place) => line(out, place),
-        Estimated::Silence => case_answers::print_none(out),
-        Estimated::Refused(n) => case_answers::print_refusal(out, err, n),
+        Ok(Some(placed)) => line(out, placed.place),
+        Ok(None) => case_answers::print_none(out),
+        Err(refusal) => case_answers::print_refusal(out, err, refusal.number()),
     }
 }

@@ -7,7 +7,8 @@ ghost use Rattle.tables.specs.Pools.{pools};
 ghost use Rattle.one_trip.specs.One.{one_of};
 ghost use Rattle.trip_backfill.specs.Answers.{filled_of, filled_dists, filled_marks};
 
-use line_answers::told_backfill;
+use ids::Lent;
+use refusals::number_or_zero;
 use tables::Tables;
 use trip_backfill::{backfill_trip, backfill_trips};
 
@@ -26,8 +27,14 @@ pub extern "C" fn zebumorn_backfill_trips(
     ensures dist_after { dist.new ≡ filled_dists (pools bytes.now words.now times.now reals.now dists.now) t 0 t.trips.first.n dist.old measured.old }
     ensures measured_after { measured.new ≡ filled_marks (pools bytes.now words.now times.now reals.now dists.now) t 0 t.trips.first.n dist.old measured.old }
 {
-    let filled = backfill_trips(bytes, words, times, reals, dists, t, dist, measured);
-    told_backfill(filled)
+    let lent = Lent {
+        bytes,
+        words,
+        times,
+        reals,
+        dists,
+    };
+    number_or_zero(&backfill_trips(&lent, t, dist, measured))
 }
 
 #[unsafe(no_mangle)]
@@ -46,6 +53,12 @@ pub extern "C" fn zebumorn_backfill_trip(
     ensures dist_after { dist.new ≡ filled_dists (pools bytes.now words.now times.now reals.now dists.now) t trip (one_of trip t.trips.first.n) dist.old measured.old }
     ensures measured_after { measured.new ≡ filled_marks (pools bytes.now words.now times.now reals.now dists.now) t trip (one_of trip t.trips.first.n) dist.old measured.old }
 {
-    let filled = backfill_trip(bytes, words, times, reals, dists, t, trip, dist, measured);
-    told_backfill(filled)
+    let lent = Lent {
+        bytes,
+        words,
+        times,
+        reals,
+        dists,
+    };
+    number_or_zero(&backfill_trip(&lent, t, trip, dist, measured))
 }

@@ -12,11 +12,12 @@ ghost use Rattle.leg_drawing.specs.Trip.{asked_points};
 ghost use Rattle.journey_rules.specs.Causes.{journey_causes};
 ghost use Rattle.journey_points.specs.Journey.{journey_points};
 
-use ids::IdColumn;
+use ids::{IdColumn, Lent};
 use journey_rules::JourneyLegs;
 use journeys::journey_geometry;
 use leg_drawing::leg_geometry;
-use refusal_numbers::told_drawing;
+use point_columns::Sheet;
+use refusals::told;
 use tables::{LegAsked, Tables};
 
 #[unsafe(no_mangle)]
@@ -39,11 +40,16 @@ pub extern "C" fn zebumorn_leg_geometry(
     ensures lat_after { lat.new ≡ lat_after (refusal_of (pools bytes.now words.now times.now reals.now dists.now) (leg_causes chart_bounds t (record { trip = trip }))) (asked_points (pools bytes.now words.now times.now reals.now dists.now) t (record { trip = trip }) from to) lat.old lon.old }
     ensures lon_after { lon.new ≡ lon_after (refusal_of (pools bytes.now words.now times.now reals.now dists.now) (leg_causes chart_bounds t (record { trip = trip }))) (asked_points (pools bytes.now words.now times.now reals.now dists.now) t (record { trip = trip }) from to) lat.old lon.old }
 {
-    let asked = LegAsked { trip };
-    let drawing = leg_geometry(
-        bytes, words, times, reals, dists, t, asked, from, to, lat, lon,
-    );
-    told_drawing(drawing, points)
+    let lent = Lent {
+        bytes,
+        words,
+        times,
+        reals,
+        dists,
+    };
+    let mut sheet = Sheet { lat, lon };
+    let drawn = leg_geometry(&lent, t, LegAsked { trip }, from, to, &mut sheet);
+    told(drawn, points)
 }
 
 #[unsafe(no_mangle)]
@@ -63,6 +69,13 @@ pub extern "C" fn zebumorn_journey_geometry(
     ensures lat_after { lat.new ≡ lat_after (refusal_of (pools bytes.now words.now times.now reals.now dists.now) (journey_causes chart_bounds j)) (journey_points bytes.now words.now reals.now j) lat.old lon.old }
     ensures lon_after { lon.new ≡ lon_after (refusal_of (pools bytes.now words.now times.now reals.now dists.now) (journey_causes chart_bounds j)) (journey_points bytes.now words.now reals.now j) lat.old lon.old }
 {
-    let drawing = journey_geometry(bytes, words, times, reals, dists, j, lat, lon);
-    told_drawing(drawing, points)
+    let lent = Lent {
+        bytes,
+        words,
+        times,
+        reals,
+        dists,
+    };
+    let mut sheet = Sheet { lat, lon };
+    told(journey_geometry(&lent, j, &mut sheet), points)
 }

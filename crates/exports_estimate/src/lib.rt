@@ -8,6 +8,7 @@ ghost use Rattle.estimate_told.specs.Told.{told_of};
 
 use estimate::estimate;
 use estimate_told::{Told, tell};
+use ids::Lent;
 use tables::Tables;
 
 #[unsafe(no_mangle)]
@@ -21,5 +22,12 @@ pub extern "C" fn zebumorn_estimate(
 ) -> Told
     ensures { result ≡ told_of (estimate_of (pools bytes.now words.now times.now reals.now dists.now) t) }
 {
-    tell(estimate(bytes, words, times, reals, dists, t))
+    let lent = Lent {
+        bytes,
+        words,
+        times,
+        reals,
+        dists,
+    };
+    tell(estimate(&lent, t))
 }

@@ -5,7 +5,7 @@ ghost use Rattle.calibrate.specs.Answers.{calibration_of};
 ghost use Rattle.line_told.specs.Told.{metres_told};
 
 use calibrate::shape_dist_affine;
-use ids::Span;
+use ids::{Lent, Span};
 use line_told::{MetresTold, tell_metres};
 use tables::{Points, Samples};
 
@@ -23,11 +23,18 @@ pub extern "C" fn zebumorn_calibrate(
 ) -> MetresTold
     ensures { result ≡ metres_told (calibration_of (pools bytes.now words.now times.now reals.now dists.now) (record { line = line; at = at; dist = dist; numbers = numbers })) }
 {
+    let lent = Lent {
+        bytes,
+        words,
+        times,
+        reals,
+        dists,
+    };
     let s = Samples {
         line,
         at,
         dist,
         numbers,
     };
-    tell_metres(shape_dist_affine(bytes, words, times, reals, dists, s))
+    tell_metres(shape_dist_affine(&lent, s))
 }

@@ -3,7 +3,7 @@ ghost use Rattle.std.specs.Prelude.{◌≡◌, ◌↔◌, ◌||◌, eqb, ltb, Is
 ghost use Rattle.tables.specs.Pools.{pools};
 ghost use Rattle.exports_line.specs.Asked.{question_of, interpolation_told};
 
-use ids::Span;
+use ids::{Lent, Span};
 use interpolate::interpolate;
 use line_questions::Question;
 use line_told::{PositionTold, no_position, tell_position};
@@ -42,11 +42,18 @@ pub extern "C" fn zebumorn_interpolate(
     let Some(asked) = question_of(question) else {
         return no_position(1);
     };
+    let lent = Lent {
+        bytes,
+        words,
+        times,
+        reals,
+        dists,
+    };
     let a = Along {
         line,
         ends,
         dists: distances,
         numbers,
     };
-    tell_position(interpolate(bytes, words, times, reals, dists, asked, a))
+    tell_position(interpolate(&lent, asked, a))
 }

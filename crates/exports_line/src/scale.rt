@@ -5,7 +5,7 @@ ghost use Rattle.calibrate.specs.Answers.{snapped_of};
 ghost use Rattle.line_told.specs.Told.{scale_told};
 
 use calibrate::snap_unit_scale;
-use ids::Span;
+use ids::{Lent, Span};
 use line_told::{ScaleTold, tell_scale};
 use tables::{Points, Samples};
 
@@ -24,11 +24,18 @@ pub extern "C" fn zebumorn_snap_scale(
 ) -> ScaleTold
     ensures { result ≡ scale_told (snapped_of (pools bytes.now words.now times.now reals.now dists.now) (record { line = line; at = at; dist = dist; numbers = numbers })) }
 {
+    let lent = Lent {
+        bytes,
+        words,
+        times,
+        reals,
+        dists,
+    };
     let s = Samples {
         line,
         at,
         dist,
         numbers,
     };
-    tell_scale(snap_unit_scale(bytes, words, times, reals, dists, s))
+    tell_scale(snap_unit_scale(&lent, s))
 }

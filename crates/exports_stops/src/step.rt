@@ -3,7 +3,7 @@ ghost use Rattle.std.specs.Prelude.{◌≡◌};
 ghost use Rattle.stop_projection.specs.Step.{stepped_of};
 ghost use Rattle.line_told.specs.Told.{step_told};
 
-use lengths::Point;
+use lengths::{Point, Polyline};
 use line_told::{StepTold, tell_step};
 use projection::Cursor;
 use stop_projection::project_stop;
@@ -21,5 +21,5 @@ pub extern "C" fn zebumorn_project_stop(
 {
     let from = Cursor { at: cursor };
     let stop = Point { lat: y, lon: x };
-    tell_step(project_stop(lat, lon, from, stop))
+    tell_step(project_stop(Polyline { lat, lon }, from, stop))
 }

@@ -4,7 +4,7 @@ ghost use Rattle.tables.specs.Pools.{pools};
 ghost use Rattle.trip_projection.specs.Answers.{projected_of, output_of};
 ghost use Rattle.line_told.specs.Told.{rows_told};
 
-use ids::IdColumn;
+use ids::{IdColumn, Lent};
 use line_told::{RowsTold, tell_rows};
 use tables::{LegAsked, Tables};
 use trip_projection::project_trip;
@@ -24,6 +24,13 @@ pub extern "C" fn zebumorn_project_trip(
     ensures value { result ≡ rows_told (projected_of (pools bytes.now words.now times.now reals.now dists.now) t (record { trip = trip }) out.old) }
     ensures out_after { out.new ≡ output_of (pools bytes.now words.now times.now reals.now dists.now) t (record { trip = trip }) out.old }
 {
+    let lent = Lent {
+        bytes,
+        words,
+        times,
+        reals,
+        dists,
+    };
     let l = LegAsked { trip };
-    tell_rows(project_trip(bytes, words, times, reals, dists, t, l, out))
+    tell_rows(project_trip(&lent, t, l, out))
 }

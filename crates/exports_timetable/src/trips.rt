@@ -6,6 +6,7 @@ ghost use Rattle.timetable.specs.Answers.{matched_of};
 ghost use Rattle.service_days.specs.Services.{running_of};
 ghost use Rattle.refusal_numbers.specs.Told.{row_or, runs_or};
 
+use ids::Lent;
 use refusal_numbers::{told_running, told_trip};
 use service_days::service_runs;
 use tables::{Journey, Service, Tables};
@@ -25,7 +26,14 @@ pub extern "C" fn zebumorn_match_trip(
     ensures value { result ≡ number_of (matched_of (pools bytes.now words.now times.now reals.now dists.now) t j) }
     ensures out_after { out.new ≡ row_or out.old (matched_of (pools bytes.now words.now times.now reals.now dists.now) t j) }
 {
-    told_trip(match_trip(bytes, words, times, reals, dists, t, j), out)
+    let lent = Lent {
+        bytes,
+        words,
+        times,
+        reals,
+        dists,
+    };
+    told_trip(match_trip(&lent, t, j), out)
 }
 
 #[unsafe(no_mangle)]
@@ -42,5 +50,12 @@ pub extern "C" fn zebumorn_service_runs(
     ensures value { result ≡ number_of (running_of (pools bytes.now words.now times.now reals.now dists.now) t s) }
     ensures out_after { out.new ≡ runs_or out.old (running_of (pools bytes.now words.now times.now reals.now dists.now) t s) }
 {
-    told_running(service_runs(bytes, words, times, reals, dists, t, s), out)
+    let lent = Lent {
+        bytes,
+        words,
+        times,
+        reals,
+        dists,
+    };
+    told_running(service_runs(&lent, t, s), out)
 }

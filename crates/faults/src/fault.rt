@@ -6,8 +6,8 @@ ghost use Rattle.faults.specs.Fault.{fails_of};
 use crate::column::{no_date, not_a_number};
 use column_faults::{ids_ill_sized, ill_sized, out_of_time, too_large};
 use column_order::Key;
-use ids::{IdColumn, Span};
-use tables::{Lent, Mark, Pool, cut};
+use ids::{IdColumn, Lent, Span};
+use tables::{Mark, Pool, cut};
 
 // A fault that a column or a count may have.
 #[derive(Clone, Copy)]
@@ -48,17 +48,17 @@ pub fn fails(lent: &Lent, test: Test) -> bool
     ensures { result ≡ fails_of (pools_of lent.now) test }
 {
     match test {
-        Test::Column(pool, s, n) => ill_sized(lent.pool_length(pool), s, n),
+        Test::Column(pool, s, n) => ill_sized(tables::pool_length(lent, pool), s, n),
         Test::Ids(ids, n) => ids_ill_sized(lent.words.len(), ids, n),
         Test::Over(n, most) => most < n,
-        Test::Reaches(s, m, n) => too_large(lent.bytes, lent.words, s, m, n),
+        Test::Reaches(s, m, n) => too_large(lent, s, m, n),
         Test::OffGlobe(lat, lon, m) => column_floats::off_globe(
             cut(lent.reals, lat),
             cut(lent.reals, lon),
             cut(lent.bytes, m.flags),
             m.all,
         ),
-        Test::Unsorted(key, n) => column_order::unsorted(lent.bytes, lent.words, key, n as usize),
+        Test::Unsorted(key, n) => column_order::unsorted(lent, key, n as usize),
         Test::IdsPast(ids, m) => columns::ends_past(
             cut(lent.words, ids.starts),
             cut(lent.words, ids.lens),
@@ -75,7 +75,7 @@ pub fn fails(lent: &Lent, test: Test) -> bool
                 n as u64,
             )
         }
-        Test::Moment(s, m) => out_of_time(lent.bytes, lent.times, s, m),
+        Test::Moment(s, m) => out_of_time(lent, s, m),
         Test::Offset(s) => columns::outside(cut(lent.times, s), &[], true, -50400, 50400),
         Test::BadIds(ids, m, empty) => column_ids::bad_ids(
             lent.bytes,

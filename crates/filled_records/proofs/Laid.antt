@@ -22,7 +22,7 @@ use Rattle.stop_record.specs.Record.{none}
 use Rattle.records.specs.Records.{fill_row, flag_of}
 use Rattle.stop_record.specs.declared.StopTime.{StopTime}
 use Rattle.filled_records.specs.Records.{lent_line, record_stops, record_rows, record_filled, own_calls, core_rows, core_d, core_k, laid_a, col_d, col_k, laid_d, laid_k, laid_r}
-use Rattle.record_refusals.specs.declared.Lent.{Lent}
+use Rattle.record_refusals.specs.declared.LentRecords.{LentRecords}
 
 abbrev stop_of : StopTime → ℕ
 stop_of s = s.stop
@@ -77,7 +77,7 @@ each_same : {X : Type 0} {g h : ℕ → X → X} (xs : List X) → ((j : ℕ) (x
 each_same [] e = refl
 each_same (x ∷ xs) e = rw (e 0 x (omega arith), each_same xs (λ j y l. e (suc j) y (omega arith)))
 
-module _ (rs : List StopTime) (bytes : List ℕ) (reals : List Float) (l : Lent) (ats : List ℕ) (ds : List Float) (ks : List ℕ)
+module _ (rs : List StopTime) (bytes : List ℕ) (reals : List Float) (l : LentRecords) (ats : List ℕ) (ds : List Float) (ks : List ℕ)
     (fits : length rs ≤ length ats) (room : length rs ≤ length ds) (flags : length rs ≤ length ks) where
   abbrev n : ℕ
   n = length rs
@@ -127,7 +127,7 @@ module _ (rs : List StopTime) (bytes : List ℕ) (reals : List Float) (l : Lent)
         )
 
 -- the core's answer, by the columns of the line
-pub core_is : (bytes ats : List ℕ) (reals : List Float) (l : Lent) (n : ℕ) (ds : List Float) (ks : List ℕ) → {lat : List Float} → lat ≡ part_of reals l.line.lat → {lon : List Float} → lon ≡ part_of reals l.line.lon →
+pub core_is : (bytes ats : List ℕ) (reals : List Float) (l : LentRecords) (n : ℕ) (ds : List Float) (ks : List ℕ) → {lat : List Float} → lat ≡ part_of reals l.line.lat → {lon : List Float} → lon ≡ part_of reals l.line.lon →
     {us : List Float} → us ≡ dists_in (backfill_of (line_of lat lon) (positions_from (row_position bytes ats reals l.stops own_calls) 0 n) (rows_of (take n ds) (take n ks))) →
     {vs : List ℕ} → vs ≡ marks_in (backfill_of (line_of lat lon) (positions_from (row_position bytes ats reals l.stops own_calls) 0 n) (rows_of (take n ds) (take n ks))) →
     (us ++ drop n ds ≡ core_d bytes ats reals l n ds ks) × (vs ++ drop n ks ≡ core_k bytes ats reals l n ds ks)

@@ -15,11 +15,11 @@ use Rattle.stop_record.specs.declared.StopTime.{StopTime}
 use Rattle.record_refusals.specs.Verdict.{lent_causes, verdict_of}
 use Rattle.filled_records.specs.Records.{laid_r, laid_a, laid_d, laid_k}
 use Rattle.filled_records.specs.Answers.{code_of, records_after, stops_after, dists_after, marks_after}
-use Rattle.record_refusals.specs.declared.Lent.{Lent}
+use Rattle.record_refusals.specs.declared.LentRecords.{LentRecords}
 use Rattle.filled_records.proofs.Laid.{stops_laid, dists_laid, marks_laid, records_laid}
 use Rattle.record_refusals.proofs.Refused.{passed}
 
-module _ (rs : List StopTime) (bytes words : List ℕ) (reals : List Float) (l : Lent) (ats : List ℕ) (ds : List Float) (ks : List ℕ) where
+module _ (rs : List StopTime) (bytes words : List ℕ) (reals : List Float) (l : LentRecords) (ats : List ℕ) (ds : List Float) (ks : List ℕ) where
   abbrev code : ℕ
   code = code_of rs bytes words reals l ats ds ks
 

@@ -10,9 +10,9 @@ use Rattle.stop_record.specs.declared.StopTime.{StopTime}
 use Rattle.record_faults.specs.Faults.{start, step_of}
 use Rattle.record_refusals.specs.Verdict.{lent_causes, verdict_of}
 use Rattle.filled_records.specs.Records.{record_filled}
-use Rattle.record_refusals.specs.declared.Lent.{Lent}
+use Rattle.record_refusals.specs.declared.LentRecords.{LentRecords}
 
-module _ (rs : List StopTime) (bytes words : List ℕ) (reals : List Float) (l : Lent) (ats : List ℕ) (ds : List Float) (ks : List ℕ) where
+module _ (rs : List StopTime) (bytes words : List ℕ) (reals : List Float) (l : LentRecords) (ats : List ℕ) (ds : List Float) (ks : List ℕ) where
   -- the first refusal that applies, or 0
   unfoldable pub code_of : ℕ
   code_of = verdict_of (fold (step_of l.stops.lat.n) start rs) (refusal_of (pools bytes words [] reals []) (lent_causes chart_bounds l)) (length rs) (length ats) (length ds) (length ks)

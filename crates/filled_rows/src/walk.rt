@@ -4,20 +4,20 @@ ghost use Rattle.lengths.specs.Line.{line_of};
 ghost use Rattle.running_lengths.specs.Length.{length_to};
 ghost use Rattle.filled_rows.specs.Walk.{walked_of};
 
-use lengths::{Point, metres, vertex};
+use lengths::{Point, Polyline, metres, vertex};
 use projection::Cursor;
 use row_distances::{Distance, Unit, filled};
 
 // The length along a line to a vertex, from that to an earlier one.
-fn length_on(lat: &[f64], lon: &[f64], from: usize, sum: f64, to: usize) -> f64
-    requires sum_value { sum ≡ length_to (line_of lat.now lon.now) from }
+fn length_on(line: Polyline, from: usize, sum: f64, to: usize) -> f64
+    requires sum_value { sum ≡ length_to (line_of line.lat.now line.lon.now) from }
     requires from_le_to { from ≤ to }
-    requires to_in_bounds { to < length (line_of lat.now lon.now) }
-    ensures { result ≡ length_to (line_of lat.now lon.now) to }
+    requires to_in_bounds { to < length (line_of line.lat.now line.lon.now) }
+    ensures { result ≡ length_to (line_of line.entry.lat.now line.entry.lon.now) to }
 {
     let mut m = sum;
     for k in from..to {
-        m += metres(vertex(lat, lon, k), vertex(lat, lon, k + 1));
+        m += metres(vertex(line, k), vertex(line, k + 1));
     }
     m
 }
@@ -32,24 +32,23 @@ pub(crate) struct Walked {
 
 // Takes a stop and its row.
 pub(crate) fn walk(
-    lat: &[f64],
-    lon: &[f64],
+    line: Polyline,
     unit: Unit,
     at: usize,
     sum: f64,
     stop: Option<Point>,
     row: Distance,
 ) -> Walked
-    requires at_in_bounds { at < length (line_of lat.now lon.now) }
-    requires sum_value { sum ≡ length_to (line_of lat.now lon.now) at }
-    ensures { result ≡ walked_of (line_of lat.now lon.now) unit at stop row }
+    requires at_in_bounds { at < length (line_of line.lat.now line.lon.now) }
+    requires sum_value { sum ≡ length_to (line_of line.lat.now line.lon.now) at }
+    ensures { result ≡ walked_of (line_of line.entry.lat.now line.entry.lon.now) unit at stop row }
 {
     let Some(point) = stop else {
         return Walked { at, sum, row };
     };
-    let step = Cursor { at }.step(lat, lon, point);
+    let step = Cursor { at }.step(line, point);
     let next = step.vertex;
-    let m = length_on(lat, lon, at, sum, next);
+    let m = length_on(line, at, sum, next);
     Walked {
         at: next,
         sum: m,

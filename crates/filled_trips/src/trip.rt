@@ -4,22 +4,16 @@ ghost use Rattle.row_distances.specs.Rows.{rows_of, dists_in, marks_in};
 ghost use Rattle.filled_trips.specs.Tables.{after_trip};
 
 use backfill::backfill_rows;
+use ids::Lent;
+use lengths::Polyline;
 use tables::Tables;
 use trip_rows::{shape_column, trip_span};
 
 // Backfill of the trip. Where its rows are not all there nothing is written.
-pub fn backfill_in(
-    bytes: &[u8],
-    words: &[u32],
-    reals: &[f64],
-    t: Tables,
-    trip: usize,
-    dist: &mut [f32],
-    measured: &mut [u8],
-)
+pub fn backfill_in(lent: &Lent, t: Tables, trip: usize, dist: &mut [f32], measured: &mut [u8])
     requires { length dist.old ≡ length measured.old }
-    ensures dist_after { dist.new ≡ dists_in (after_trip bytes.now words.now reals.now t trip (rows_of dist.old measured.old)) }
-    ensures measured_after { measured.new ≡ marks_in (after_trip bytes.now words.now reals.now t trip (rows_of dist.old measured.old)) }
+    ensures dist_after { dist.new ≡ dists_in (after_trip lent.now.bytes.now lent.now.words.now lent.now.reals.now t trip (rows_of dist.old measured.old)) }
+    ensures measured_after { measured.new ≡ marks_in (after_trip lent.now.bytes.now lent.now.words.now lent.now.reals.now t trip (rows_of dist.old measured.old)) }
 {
     let stops = t.stops;
     let trips = t.trips;
@@ -29,22 +23,22 @@ pub fn backfill_in(
     let counts = trips.count;
     let lats = t.points.lat;
     let lons = t.points.lon;
-    let first = ids::cell(words, firsts, trip);
-    let n = ids::cell(words, counts, trip);
+    let first = ids::cell(lent.words, firsts, trip);
+    let n = ids::cell(lent.words, counts, trip);
     let from = first as usize;
     let to = from + n as usize;
     if dist.len() < to {
         return;
     }
-    let points = trip_span(bytes, words, trips, shapes, trip);
+    let points = trip_span(lent, trips, shapes, trip);
     backfill_rows(
-        bytes,
-        words,
-        reals,
+        lent,
         stops,
         calls,
-        shape_column(reals, lats, points),
-        shape_column(reals, lons, points),
+        Polyline {
+            lat: shape_column(lent.reals, lats, points),
+            lon: shape_column(lent.reals, lons, points),
+        },
         first,
         n,
         &mut dist[from..to],

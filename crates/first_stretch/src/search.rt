@@ -4,6 +4,7 @@ ghost use Rattle.lengths.specs.Line.{line_of};
 ghost use Rattle.first_stretch.specs.Search.{fraction_of, meets, stretch_at};
 
 use ieee::{clamp01, max_of};
+use lengths::Polyline;
 use line_parts::{Part, stretch_length};
 use stretches::Spot;
 
@@ -25,12 +26,12 @@ fn fraction(target: f64, from: f64, to: f64) -> f64
 }
 
 // A target before the part's start meets no stretch, as one past its end.
-pub fn stretch_at(lat: &[f64], lon: &[f64], part: Part, tolerance: f64, target: f64) -> Spot
-    ensures { result ≡ stretch_at (line_of lat.now lon.now) part tolerance target }
+pub fn stretch_at(line: Polyline, part: Part, tolerance: f64, target: f64) -> Spot
+    ensures { result ≡ stretch_at (line_of line.entry.lat.now line.entry.lon.now) part tolerance target }
 {
     let mut sum = 0.0;
     for k in part.first..part.last {
-        let next = sum + stretch_length(lat, lon, k);
+        let next = sum + stretch_length(line, k);
         if met(tolerance, target, sum, next) {
             return Spot::Stretch(k, fraction(target, sum, next));
         }

@@ -6,8 +6,9 @@ ghost use Rattle.verdicts.specs.Refuse.{refusal_of};
 ghost use Rattle.verdicts.specs.Verdict.{least};
 ghost use Rattle.geometry_checks.specs.Operations.{geometry_causes, leg_causes, interpolation_causes, calibration_causes};
 
+use ids::Lent;
 use refusals::Refusal;
-use tables::{Along, Bounds, LegAsked, Lent, Samples, Tables};
+use tables::{Along, Bounds, LegAsked, Samples, Tables};
 use verdicts::Verdict;
 
 // The causes of projection and backfill: stops, trips, stop times, shapes and points.

@@ -14,4 +14,4 @@ pub mod byte; // single bytes: digits, letters, upper case
 pub use byte::{Kind, alnum, digit, letter, of_kind, upper};
 pub use lookup::find;
 pub use order::compare;
-pub use pool::{IdColumn, Span, cell, id, part, word};
+pub use pool::{IdColumn, Lent, Span, cell, id, part, word};

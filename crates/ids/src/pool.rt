@@ -5,6 +5,16 @@
 ghost use Rattle.std.specs.Prelude.{◌≡◌, get_or, take, drop};
 ghost use Rattle.ids.specs.Pool.{cell_of, id_of};
 
+/// What a caller lends: the pools that the columns of all tables lie in.
+#[derive(Clone, Copy)]
+pub struct Lent<'a> {
+    pub bytes: &'a [u8],
+    pub words: &'a [u32],
+    pub times: &'a [i64],
+    pub reals: &'a [f64],
+    pub dists: &'a [f32],
+}
+
 // A column: n elements from `at` on in a pool.
 #[repr(C)]
 #[derive(Clone, Copy)]
@@ -49,10 +59,10 @@ pub fn part<'a>(bytes: &'a [u8], a: usize, n: usize) -> &'a [u8]
 
 // Row k of a column of ids.
 #[tactic(auto, unfolding(crate::specs::Pool::id_of))]
-pub fn id<'a>(bytes: &'a [u8], words: &[u32], col: IdColumn, k: usize) -> &'a [u8]
-    ensures { result.now ≡ id_of bytes.now words.now col k }
+pub fn id<'a>(lent: &Lent<'a>, col: IdColumn, k: usize) -> &'a [u8]
+    ensures { result.now ≡ id_of lent.now.bytes.now lent.now.words.now col k }
 {
-    let a = cell(words, col.starts, k) as usize;
-    let n = cell(words, col.lens, k) as usize;
-    part(bytes, a, n)
+    let a = cell(lent.words, col.starts, k) as usize;
+    let n = cell(lent.words, col.lens, k) as usize;
+    part(lent.bytes, a, n)
 }

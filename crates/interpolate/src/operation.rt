@@ -1,40 +1,20 @@
 // The operation.
 ghost use Rattle.std.specs.Prelude.{◌≡◌};
-ghost use Rattle.tables.specs.Pools.{pools};
-ghost use Rattle.line_answers.specs.Answers.{interpolation_answer};
+ghost use Rattle.refusals.specs.Answer.{answer_of};
+ghost use Rattle.tables.specs.Pools.{pools_of};
 ghost use Rattle.interpolate.specs.Answers.{interpolation_of};
 
 use geometry_checks::check_interpolation;
-use line_answers::Interpolation;
+use ids::Lent;
 use line_questions::Question;
-use refusals::number_or_zero;
-use tables::{Along, Bounds, Lent};
+use refusals::Refusal;
+use stretches::Drawn;
+use tables::{Along, Bounds};
 
 // The position that the question asks for, or none, or the first refusal that applies.
-pub fn interpolate(
-    bytes: &[u8],
-    words: &[u32],
-    times: &[i64],
-    reals: &[f64],
-    dists: &[f32],
-    question: Question,
-    a: Along,
-) -> Interpolation
-    ensures { interpolation_answer result ≡ interpolation_of (pools bytes.now words.now times.now reals.now dists.now) question a }
+pub fn interpolate(lent: &Lent, question: Question, a: Along) -> Result<Option<Drawn>, Refusal>
+    ensures { answer_of result ≡ interpolation_of (pools_of lent.now) question a }
 {
-    let lent = Lent {
-        bytes,
-        words,
-        times,
-        reals,
-        dists,
-    };
-    let refusal = number_or_zero(&check_interpolation(&lent, Bounds::chart(), a));
-    if refusal != 0 {
-        return Interpolation::Refused(refusal);
-    }
-    match line_questions::lent(reals, dists, question, a) {
-        Some(drawn) => Interpolation::At(drawn),
-        None => Interpolation::Nothing,
-    }
+    check_interpolation(lent, Bounds::chart(), a)?;
+    Ok(line_questions::lent(lent, question, a))
 }

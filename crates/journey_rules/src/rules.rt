@@ -8,8 +8,9 @@ ghost use Rattle.journey_rules.specs.Causes.{legs_causes, ends_causes};
 
 use crate::lent::JourneyLegs;
 use faults::Test;
+use ids::Lent;
 use refusals::Refusal;
-use tables::{Bounds, Lent, Mark, Pool};
+use tables::{Bounds, Mark, Pool};
 use verdicts::Verdict;
 
 // The legs, and their points among so many.

@@ -5,9 +5,10 @@ ghost use Rattle.tables.specs.Pools.{pools_of};
 ghost use Rattle.verdicts.specs.Refuse.{refusal_of};
 ghost use Rattle.journey_rules.specs.Causes.{journey_causes};
 
+use ids::Lent;
 use journey_rules::{JourneyLegs, ends, legs};
 use refusals::Refusal;
-use tables::{Bounds, Lent};
+use tables::Bounds;
 use verdicts::Verdict;
 
 // The legs, the ends of walks, and the points.

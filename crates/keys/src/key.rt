@@ -5,7 +5,7 @@ ghost use Rattle.ids.specs.Bytes.{upper_of};
 ghost use Rattle.ids.specs.Pool.{id_of};
 ghost use Rattle.ids.specs.Rows.{GoodIds, row_of};
 
-use ids::{IdColumn, find};
+use ids::{IdColumn, Lent, find};
 
 // s into the buffer from `at` on; the place after it.
 pub fn put(buf: &mut [u8], at: usize, s: &[u8]) -> usize
@@ -32,16 +32,15 @@ pub fn upper_into(buf: &mut [u8], at: usize, s: &[u8]) -> usize
 // The row whose id is the four parts joined, of which some may be empty. No id is over 96 bytes, so
 // one that has a longer part is in no row, and four others fit the buffer.
 pub fn find_joined(
-    bytes: &[u8],
-    words: &[u32],
+    lent: &Lent,
     col: IdColumn,
     a: &[u8],
     b: &[u8],
     c: &[u8],
     d: &[u8],
 ) -> Option<usize>
-    requires { GoodIds (id_of bytes.now words.now col) col.starts.n }
-    ensures { result ≡ row_of (id_of bytes.now words.now col) col.starts.n (a.now ++ (b.now ++ (c.now ++ d.now))) }
+    requires { GoodIds (id_of lent.now.bytes.now lent.now.words.now col) col.starts.n }
+    ensures { result ≡ row_of (id_of lent.now.bytes.now lent.now.words.now col) col.starts.n (a.now ++ (b.now ++ (c.now ++ d.now))) }
 {
     if 96 < a.len() {
         return None;
@@ -60,5 +59,5 @@ pub fn find_joined(
     let j = put(&mut buf, i, b);
     let k = put(&mut buf, j, c);
     let n = put(&mut buf, k, d);
-    find(bytes, words, col, &buf[..n])
+    find(lent, col, &buf[..n])
 }

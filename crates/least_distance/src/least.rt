@@ -7,7 +7,7 @@ ghost use Rattle.sphere_lengths.specs.Length.{way_of};
 ghost use Rattle.reach.specs.Reach.{Beyond};
 ghost use Rattle.vertices_within.specs.Near.{distances_of, least_in};
 
-use lengths::{Point, vertices};
+use lengths::{Point, Polyline, vertices};
 use maths::{cos, radians};
 use reach::is_beyond;
 use sphere_lengths::way;
@@ -42,16 +42,16 @@ fn lesser(least: Least, a: f64, left: usize) -> Least
 
 // Over the vertices from `at` on. A distance that is NaN is never the least, which is infinity where
 // there is no other.
-pub fn least_from(lat: &[f64], lon: &[f64], stop: Point, at: usize) -> f64
-    ensures { result ≡ least_in (distances_of stop (drop at (line_of lat.now lon.now))) }
+pub fn least_from(line: Polyline, stop: Point, at: usize) -> f64
+    ensures { result ≡ least_in (distances_of stop (drop at (line_of line.entry.lat.now line.entry.lon.now))) }
 {
     let c = cos(radians(stop.lat));
     let mut least = Least {
         best: f64::INFINITY,
         limit: f64::INFINITY,
     };
-    for k in (at..vertices(lat, lon)).rev() {
-        least = lesser(least, aside(lat, lon, stop, c, k), k - at);
+    for k in (at..vertices(line)).rev() {
+        least = lesser(least, aside(line, stop, c, k), k - at);
     }
     least.best
 }

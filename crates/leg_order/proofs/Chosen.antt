@@ -26,7 +26,6 @@ use Rattle.routes.specs.declared.route.Route.{Route}
 use Rattle.polylines.specs.Polyline.{spot_along}
 use Rattle.stop_routes.specs.Routed.{roundabout, routed_of, route_between}
 use Rattle.stop_routes.specs.declared.between.Routed.{Routed}
-use Rattle.stop_routes.specs.declared.between.Routed.TheVariants.{Over as Routed·over, Nothing as Routed·nothing}
 use Rattle.along_order.specs.Order.{NoEarlier as Spot·noEarlier}
 use Rattle.along_order.specs.Granted.{Distance}
 use Rattle.along_order.proofs.Along.{Inside, never_earlier_on_line, never_earlier_polyline}
@@ -41,14 +40,14 @@ use Rattle.leg_order.proofs.Spots.{OnPart, over_on_part, sailed_on_part, chain_o
 
 pub data Chosen (shape chain : List Point) (from to : Point) : Path → Type 0 where
   spanned : (d₀ d₁ : Float) (span : Span) → span_of d₀ d₁ ≡ Some span → Chosen shape chain from to (ByDistance span)
-  routed : (route : Route) (way : Way) → route_between shape from to ≡ Routed·over route way → Chosen shape chain from to (Polyline route way)
+  routed : (route : Route) (way : Way) → route_between shape from to ≡ Some (record { route = route; way = way }) → Chosen shape chain from to (Polyline route way)
   chained : Chained from to chain → Chosen shape chain from to (over_chain chain)
   straight : Chosen shape chain from to Path·straight
 
 module _ (shape chain : List Point) (from to : Point) (c : Chained from to chain) where
-  over_route_lem : (r : Routed) → route_between shape from to ≡ r → Chosen shape chain from to (over_route r (over_chain chain))
-  over_route_lem (Routed·over route way) e = routed route way e
-  over_route_lem Routed·nothing e = chained c
+  over_route_lem : (r : Option Routed) → route_between shape from to ≡ r → Chosen shape chain from to (over_route r (over_chain chain))
+  over_route_lem (Some r) e = routed r.route r.way e
+  over_route_lem None e = chained c
 
   over_span_lem : (d₀ d₁ : Float) (s : Option Span) (other : Path) → span_of d₀ d₁ ≡ s → Chosen shape chain from to other → Chosen shape chain from to (over_span s other)
   over_span_lem d₀ d₁ (Some span) other e k = spanned d₀ d₁ span e
@@ -123,7 +122,7 @@ record Sailed (line : List Point) (route : Route) : Type 0 where
   within : route.part.last ≤ length line
 
 routed_sailed : (line : List Point) (part : Part) (way : Way) (prev next : Point) → part.first < part.last → part.last ≤ length line →
-    (route : Route) (w : Way) → routed_of line part way prev next ≡ Routed·over route w → Sailed line route
+    (route : Route) (w : Way) → routed_of line part way prev next ≡ Some (record { route = route; way = w }) → Sailed line route
 unfolding routed_of route_of
 routed_sailed line part way prev next s i route w e = go (lt total one) (roundabout total prev next) (λ h. h) e
   where
@@ -133,12 +132,15 @@ routed_sailed line part way prev next s i route w e = go (lt total one) (roundab
     total : Float
     total = the.total
 
-    go : (a b : Bool) → (T (not a) → T (not (lt total one))) → cond (a || b) Routed·nothing (Routed·over the way) ≡ Routed·over route w → Sailed line route
+    both : Routed
+    both = record { route = the; way = way }
+
+    go : (a b : Bool) → (T (not a) → T (not (lt total one))) → cond (a || b) None (Some both) ≡ Some (record { route = route; way = w }) → Sailed line route
     go true b h e = absurd (true≢false (cc))
     go false true h e = absurd (true≢false (cc))
-    go false false h e = let q : the ≡ route = cc in subst (λ (r : Route). Sailed line r) q (record { whole = refl; stretched = s; long = h tt; within = i })
+    go false false h e = let q : both ≡ record { route = route; way = w } = cc in subst (λ (r : Routed). Sailed line r.route) q (record { whole = refl; stretched = s; long = h tt; within = i })
 
-route_sailed : (line : List Point) (prev next : Point) (route : Route) (w : Way) → route_between line prev next ≡ Routed·over route w → Sailed line route
+route_sailed : (line : List Point) (prev next : Point) (route : Route) (w : Way) → route_between line prev next ≡ Some (record { route = route; way = w }) → Sailed line route
 unfolding route_between
 route_sailed line prev next route w e = go (ltb i j) (ltb j i) (ltb→lt i j) (ltb→lt j i) e
   where
@@ -149,7 +151,7 @@ route_sailed line prev next route w e = go (ltb i j) (ltb j i) (ltb→lt i j) (l
     j = nearest_of line next
 
     go : (x y : Bool) → (T x → i < j) → (T y → j < i) →
-        cond x (routed_of line (record { first = i; last = j }) With prev next) (cond y (routed_of line (record { first = j; last = i }) Against prev next) Routed·nothing) ≡ Routed·over route w →
+        cond x (routed_of line (record { first = i; last = j }) With prev next) (cond y (routed_of line (record { first = j; last = i }) Against prev next) None) ≡ Some (record { route = route; way = w }) →
         Sailed line route
     go true y p q e = routed_sailed line (record { first = i; last = j }) With prev next (p tt) (nearest_within line next) route w e
     go false true p q e = routed_sailed line (record { first = j; last = i }) Against prev next (q tt) (nearest_within line prev) route w e

@@ -4,18 +4,18 @@ ghost use Rattle.leg_paths.specs.Leg.{leg_span, leg_rows};
 
 use chain_rows::{Chain, chain_of};
 use courses::Course;
-use ids::Span;
+use ids::{Lent, Span};
 use paths::End;
 use trip_rows::trip_span;
 
 // The points of its trip's shape.
-pub fn leg_span(bytes: &[u8], words: &[u32], c: Course, trip: Option<usize>) -> Span
-    ensures { result ≡ leg_span bytes.now words.now c trip }
+pub fn leg_span(lent: &Lent, c: Course, trip: Option<usize>) -> Span
+    ensures { result ≡ leg_span lent.now.bytes.now lent.now.words.now c trip }
 {
     let trips = c.trips;
     let shapes = c.shapes;
     match trip {
-        Some(trip) => trip_span(bytes, words, trips, shapes, trip),
+        Some(trip) => trip_span(lent, trips, shapes, trip),
         None => Span { at: 0, n: 0 },
     }
 }

@@ -10,119 +10,82 @@ ghost use Rattle.leg_paths.specs.Leg.{leg_count, leg_stops, trip_spanned, trip_p
 use crate::leg::{leg_rows, leg_span};
 use chains::chain_route;
 use courses::Course;
-use lengths::vertices;
+use ids::Lent;
+use lengths::{Polyline, vertices};
 use paths::{End, Path, feed_span};
 use seq_distances::seq_dist;
 use spans::Span;
-use stop_routes::{Routed, route_between};
+use stop_routes::route_between;
 use trip_rows::shape_column;
 use trip_samples::trip_shape_dist_affine;
 
 // Along the stops between.
-fn chain_path(
-    bytes: &[u8],
-    words: &[u32],
-    reals: &[f64],
-    c: Course,
-    trip: Option<usize>,
-    from: End,
-    to: End,
-) -> Path
-    requires { leg_count words.now c trip ≤ 1000000 }
-    ensures { result ≡ over_chain (leg_stops bytes.now words.now reals.now c trip from to) }
+fn chain_path(lent: &Lent, c: Course, trip: Option<usize>, from: End, to: End) -> Path
+    requires { leg_count lent.now.words.now c trip ≤ 1000000 }
+    ensures { result ≡ over_chain (leg_stops lent.now.bytes.now lent.now.words.now lent.now.reals.now c trip from to) }
 {
     let stops = c.stops;
     let times = c.times;
-    let chain = leg_rows(words, c, trip, from, to);
-    Path::Chain(chain_route(bytes, words, reals, stops, times, chain))
+    let chain = leg_rows(lent.words, c, trip, from, to);
+    Path::Chain(chain_route(lent, stops, times, chain))
 }
 
 // Between the vertices of a shape that are nearest to the ends, or else along the stops between.
 fn route_path(
-    bytes: &[u8],
-    words: &[u32],
-    reals: &[f64],
+    lent: &Lent,
     c: Course,
     trip: Option<usize>,
     from: End,
     to: End,
-    lat: &[f64],
-    lon: &[f64],
+    line: Polyline,
 ) -> Path
-    requires { leg_count words.now c trip ≤ 1000000 }
-    ensures { result ≡ over_route (route_between (line_of lat.now lon.now) from.at to.at) (over_chain (leg_stops bytes.now words.now reals.now c trip from to)) }
+    requires { leg_count lent.now.words.now c trip ≤ 1000000 }
+    ensures { result ≡ over_route (route_between (line_of line.entry.lat.now line.entry.lon.now) from.at to.at) (over_chain (leg_stops lent.now.bytes.now lent.now.words.now lent.now.reals.now c trip from to)) }
 {
-    match route_between(lat, lon, from.at, to.at) {
-        Routed::Over(route, way) => Path::Polyline(route, way),
-        Routed::Nothing => chain_path(bytes, words, reals, c, trip, from, to),
+    match route_between(line, from.at, to.at) {
+        Some(found) => Path::Polyline(found.route, found.way),
+        None => chain_path(lent, c, trip, from, to),
     }
 }
 
 // The span between the distances that the timetable has for the ends.
-fn trip_spanned(
-    bytes: &[u8],
-    words: &[u32],
-    reals: &[f64],
-    dists: &[f32],
-    c: Course,
-    trip: usize,
-    from: End,
-    to: End,
-) -> Option<Span>
-    ensures { result ≡ trip_spanned bytes.now words.now reals.now dists.now c trip from to }
+fn trip_spanned(lent: &Lent, c: Course, trip: usize, from: End, to: End) -> Option<Span>
+    ensures { result ≡ trip_spanned lent.now.bytes.now lent.now.words.now lent.now.reals.now lent.now.dists.now c trip from to }
 {
     feed_span(
-        trip_shape_dist_affine(bytes, words, reals, dists, c, trip),
-        seq_dist(bytes, words, dists, c, trip, from.sequence),
-        seq_dist(bytes, words, dists, c, trip, to.sequence),
+        trip_shape_dist_affine(lent, c, trip),
+        seq_dist(lent, c, trip, from.sequence),
+        seq_dist(lent, c, trip, to.sequence),
     )
 }
 
 // The path of a leg of a trip.
-fn trip_path(
-    bytes: &[u8],
-    words: &[u32],
-    reals: &[f64],
-    dists: &[f32],
-    c: Course,
-    trip: usize,
-    from: End,
-    to: End,
-) -> Path
-    requires { cell_of words.now c.trips.count trip ≤ 1000000 }
-    ensures { result ≡ trip_path bytes.now words.now reals.now dists.now c trip from to }
+fn trip_path(lent: &Lent, c: Course, trip: usize, from: End, to: End) -> Path
+    requires { cell_of lent.now.words.now c.trips.count trip ≤ 1000000 }
+    ensures { result ≡ trip_path lent.now.bytes.now lent.now.words.now lent.now.reals.now lent.now.dists.now c trip from to }
 {
     let lats = c.points.lat;
     let lons = c.points.lon;
     let found = Some(trip);
-    let span = leg_span(bytes, words, c, found);
-    let lat = shape_column(reals, lats, span);
-    let lon = shape_column(reals, lons, span);
-    if vertices(lat, lon) < 2 {
-        return chain_path(bytes, words, reals, c, found, from, to);
+    let span = leg_span(lent, c, found);
+    let lat = shape_column(lent.reals, lats, span);
+    let lon = shape_column(lent.reals, lons, span);
+    if vertices(Polyline { lat, lon }) < 2 {
+        return chain_path(lent, c, found, from, to);
     }
-    match trip_spanned(bytes, words, reals, dists, c, trip, from, to) {
+    match trip_spanned(lent, c, trip, from, to) {
         Some(span) => Path::ByDistance(span),
-        None => route_path(bytes, words, reals, c, found, from, to, lat, lon),
+        None => route_path(lent, c, found, from, to, Polyline { lat, lon }),
     }
 }
 
 // The path of a leg of a trip that is found; one of no trip is straight.
-pub fn path_of(
-    bytes: &[u8],
-    words: &[u32],
-    reals: &[f64],
-    dists: &[f32],
-    c: Course,
-    trip: Option<usize>,
-    from: End,
-    to: End,
-) -> Path
-    requires { leg_count words.now c trip ≤ 1000000 }
-    ensures { result ≡ leg_path bytes.now words.now reals.now dists.now c trip from to }
+pub fn path_of(lent: &Lent, c: Course, trip: Option<usize>, from: End, to: End) -> Path
+    requires { leg_count lent.now.words.now c trip ≤ 1000000 }
+    ensures { result ≡ leg_path lent.now.bytes.now lent.now.words.now lent.now.reals.now lent.now.dists.now c trip from to }
 {
     let Some(trip) = trip else {
         return Path::Straight;
     };
-    trip_path(bytes, words, reals, dists, c, trip, from, to)
+    trip_path(lent, c, trip, from, to)
 }

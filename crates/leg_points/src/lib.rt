@@ -2,8 +2,10 @@
 // the other, drawn.
 #![tactic(auto)]
 
+mod leg; // leg.rt: the rows of a leg's trip
 mod shape; // shape.rt: the part of the shape
 mod stops; // stops.rt: the stops, where there is no shape
 
+pub use leg::LegRows;
 pub use shape::part;
 pub use stops::draw_stops;

@@ -4,89 +4,47 @@ ghost use Rattle.lengths.specs.Line.{line_of};
 ghost use Rattle.projection.specs.Projection.{cursor_after};
 ghost use Rattle.trip_rows.specs.Rows.{row_position};
 ghost use Rattle.trip_vertices.specs.Vertices.{positions_from};
-ghost use Rattle.leg_points.specs.Leg.{leg_part};
-ghost use Rattle.leg_parts.specs.Parts.{ends_of};
+ghost use Rattle.leg_points.specs.Leg.{trip_positions, ends_of_leg, leg_part};
 
+use crate::leg::LegRows;
+use ids::Lent;
 use leg_parts::{between, leg_ends};
+use lengths::Polyline;
 use line_parts::{Part, whole};
 use projection::Cursor;
-use tables::{StopTimes, Stops};
 use trip_rows::row_position;
 
-// Where the cursor is after the stops of n rows from row `first + skip` on.
-fn run(
-    bytes: &[u8],
-    words: &[u32],
-    reals: &[f64],
-    stops: Stops,
-    calls: StopTimes,
-    lat: &[f64],
-    lon: &[f64],
-    at: usize,
-    first: u32,
-    skip: u32,
-    n: u32,
-) -> usize
-    ensures { result ≡ (cursor_after (line_of lat.now lon.now) (record { at = at }) (positions_from (row_position bytes.now words.now reals.now stops calls) (first + skip) n)).at }
+// Where the cursor is after the stops of n rows of the trip, from row `skip` on.
+fn run(lent: &Lent, leg: LegRows, line: Polyline, at: usize, skip: u32, n: u32) -> usize
+    ensures { result ≡ (cursor_after (line_of line.entry.lat.now line.entry.lon.now) (record { at = at }) (positions_from (row_position lent.now.bytes.now lent.now.words.now lent.now.reals.now leg.stops leg.calls) (leg.first + skip) n)).at }
 {
-    let from = first as usize + skip as usize;
+    let from = leg.first as usize + skip as usize;
     let mut cursor = Cursor { at };
     for k in 0..n as usize {
-        let stop = row_position(bytes, words, reals, stops, calls, from + k);
-        cursor = cursor.pass(lat, lon, stop).cursor;
+        let stop = row_position(lent, leg.stops, leg.calls, from + k);
+        cursor = cursor.pass(line, stop).cursor;
     }
     cursor.at
 }
 
 // From the vertex of the one stop to that of the other. The whole shape where one of them has no position, and where both have the same vertex.
-pub fn part(
-    bytes: &[u8],
-    words: &[u32],
-    reals: &[f64],
-    stops: Stops,
-    calls: StopTimes,
-    lat: &[f64],
-    lon: &[f64],
-    first: u32,
-    count: u32,
-    from: u32,
-    to: u32,
-) -> Part
-    ensures { result ≡ leg_part (line_of lat.now lon.now) (positions_from (row_position bytes.now words.now reals.now stops calls) first count) (ends_of count from to) }
+pub fn part(lent: &Lent, leg: LegRows, line: Polyline) -> Part
+    ensures { result ≡ leg_part (line_of line.entry.lat.now line.entry.lon.now) (trip_positions lent.now.bytes.now lent.now.words.now lent.now.reals.now leg) (ends_of_leg leg) }
 {
-    if count == 0 {
-        return whole(lat, lon);
+    if leg.count == 0 {
+        return whole(line);
     }
-    let leg = leg_ends(count, from, to);
-    let board = leg.board;
-    let alight = leg.alight;
-    let Some(_) = row_position(
-        bytes,
-        words,
-        reals,
-        stops,
-        calls,
-        first as usize + board as usize,
-    ) else {
-        return whole(lat, lon);
+    let ends = leg_ends(leg.count, leg.from, leg.to);
+    let first = leg.first as usize;
+    let Some(_) = row_position(lent, leg.stops, leg.calls, first + ends.board as usize) else {
+        return whole(line);
     };
-    let Some(_) = row_position(
-        bytes,
-        words,
-        reals,
-        stops,
-        calls,
-        first as usize + alight as usize,
-    ) else {
-        return whole(lat, lon);
+    let Some(_) = row_position(lent, leg.stops, leg.calls, first + ends.alight as usize) else {
+        return whole(line);
     };
-    let skip = board + 1;
-    let left = alight - board;
-    let i = run(
-        bytes, words, reals, stops, calls, lat, lon, 0, first, 0, skip,
-    );
-    let j = run(
-        bytes, words, reals, stops, calls, lat, lon, i, first, skip, left,
-    );
-    between(lat, lon, i, j)
+    let skip = ends.board + 1;
+    let left = ends.alight - ends.board;
+    let i = run(lent, leg, line, 0, 0, skip);
+    let j = run(lent, leg, line, i, skip, left);
+    between(line, i, j)
 }

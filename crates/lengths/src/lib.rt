@@ -6,4 +6,4 @@
 
 mod line; // points, a line's vertices and how far apart two points are
 
-pub use line::{Point, metres, vertex, vertices};
+pub use line::{Point, Polyline, metres, vertex, vertices};

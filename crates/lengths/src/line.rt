@@ -11,6 +11,13 @@ pub struct Point {
     pub lon: f64,
 }
 
+/// A line that is lent as two columns, its vertices' latitudes and longitudes.
+#[derive(Clone, Copy)]
+pub struct Polyline<'a> {
+    pub lat: &'a [f64],
+    pub lon: &'a [f64],
+}
+
 // How far b is from a, in metres.
 pub fn metres(a: Point, b: Point) -> f64
     ensures { result ≡ metres_of a b }
@@ -20,20 +27,20 @@ pub fn metres(a: Point, b: Point) -> f64
 
 // How many vertices a line has: as many as both columns have rows.
 #[tactic(auto, using(crate::proofs::Rows::vertex_count))]
-pub fn vertices(lat: &[f64], lon: &[f64]) -> usize
-    ensures { result ≡ length (line_of lat.now lon.now) }
+pub fn vertices(line: Polyline) -> usize
+    ensures { result ≡ length (line_of line.entry.lat.now line.entry.lon.now) }
 {
-    lat.len().min(lon.len())
+    line.lat.len().min(line.lon.len())
 }
 
 // Vertex k of a line.
 #[tactic(auto, using(crate::proofs::Rows::vertex_count, crate::proofs::Rows::vertex_at))]
-pub fn vertex(lat: &[f64], lon: &[f64], k: usize) -> Point
-    requires { k < length (line_of lat.now lon.now) }
-    ensures { result ≡ get_or (line_of lat.now lon.now) k nowhere }
+pub fn vertex(line: Polyline, k: usize) -> Point
+    requires { k < length (line_of line.lat.now line.lon.now) }
+    ensures { result ≡ get_or (line_of line.entry.lat.now line.entry.lon.now) k nowhere }
 {
     Point {
-        lat: lat[k],
-        lon: lon[k],
+        lat: line.lat[k],
+        lon: line.lon[k],
     }
 }

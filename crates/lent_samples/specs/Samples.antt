@@ -1,6 +1,6 @@
 -- What samples that are lent tell. Definitions only.
 use Rattle.unit_scales.specs.declared.metres.Affine.{Affine}
-use Rattle.std.specs.Prelude.{List, [], ◌∷◌, Float, Option}
+use Rattle.std.specs.Prelude.{List, [], ◌∷◌, Float, Option, Some, None}
 use Rattle.lengths.specs.Line.{line_of}
 use Rattle.lengths.specs.declared.line.Point.{Point}
 use Rattle.tables.specs.Pools.{part_of}
@@ -8,12 +8,11 @@ use Rattle.tables.specs.declared.lent.Points.{Points}
 use Rattle.tables.specs.declared.lent.Samples.{Samples}
 use Rattle.calibration.specs.Samples.{samples_affine, samples_of}
 use Rattle.unit_scales.specs.Scale.{snap_unit_scale}
-use Rattle.line_answers.specs.Answers.{Perhaps, none, one}
 
 -- the scale of the first of these ratios
-unfoldable pub first_scale : List Float → Perhaps Float
-first_scale [] = none
-first_scale (ratio ∷ ratios) = one (snap_unit_scale ratio)
+unfoldable pub first_scale : List Float → Option Float
+first_scale [] = None
+first_scale (ratio ∷ ratios) = Some (snap_unit_scale ratio)
 
 -- the points that two columns lend
 abbrev pub lent_points : List Float → Points → List Point

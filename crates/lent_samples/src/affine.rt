@@ -3,22 +3,26 @@ ghost use Rattle.std.specs.Prelude.{◌≡◌};
 ghost use Rattle.lent_samples.specs.Samples.{lent_affine};
 
 use calibration::samples_affine;
+use ids::Lent;
+use lengths::Polyline;
 use tables::{Samples, cut};
 use unit_scales::Affine;
 
 // Of samples that are not refused.
 #[tactic(auto, unfolding(crate::specs::Samples::lent_affine))]
-pub fn lent_affine(reals: &[f64], dists: &[f32], s: Samples) -> Option<Affine>
-    ensures { result ≡ lent_affine reals.now dists.now s }
+pub fn lent_affine(lent: &Lent, s: Samples) -> Option<Affine>
+    ensures { result ≡ lent_affine lent.now.reals.now lent.now.dists.now s }
 {
     let line = s.line;
     let at = s.at;
     let dist = s.dist;
     samples_affine(
-        cut(reals, line.lat),
-        cut(reals, line.lon),
-        cut(reals, at.lat),
-        cut(reals, at.lon),
-        cut(dists, dist),
+        Polyline {
+            lat: cut(lent.reals, line.lat),
+            lon: cut(lent.reals, line.lon),
+        },
+        cut(lent.reals, at.lat),
+        cut(lent.reals, at.lon),
+        cut(lent.dists, dist),
     )
 }

@@ -5,4 +5,4 @@ mod affine; // affine.rt: the metres that distances stand for
 mod scale; // scale.rt: the unit that the first ratio is near
 
 pub use affine::lent_affine;
-pub use scale::scale_answer;
+pub use scale::first_scale;

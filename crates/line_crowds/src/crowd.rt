@@ -2,43 +2,30 @@
 ghost use Rattle.std.specs.Prelude.{◌≡◌, not, ◌&&◌, eqb};
 ghost use Rattle.columns.specs.Rows.{some};
 ghost use Rattle.departure_fits.specs.Departures.{near};
-ghost use Rattle.line_fits.specs.Lines.{row_fit, line_from, Planned};
+ghost use Rattle.line_fits.specs.Asked.{fits_of};
 ghost use Rattle.line_crowds.specs.Crowds.{beside, is_crowded};
 
-use departure_fits::{Count, Fit, are_near, away_of};
-use line_fits::{fit_at, on_line};
-use trip_fits::Plan;
+use departure_fits::{Fit, are_near, away_of};
+use line_fits::Line;
+use trip_fits::Asked;
 
 // Whether row k is another than b, and within two minutes of it.
-fn is_beside(k: usize, b: usize, a: Fit, fit: Fit) -> bool
+fn is_beside(k: usize, b: usize, a: Option<Fit>, fit: Option<Fit>) -> bool
     ensures { result ≡ (not (eqb k b) && near a fit) }
 {
     k != b && are_near(a, fit)
 }
 
 // Whether another row of the line is within two minutes of row b.
-fn has_beside(
-    bytes: &[u8],
-    words: &[u32],
-    p: Plan,
-    token: &[u8],
-    today: Count,
-    yesterday: Count,
-    from: usize,
-    b: usize,
-    fit: Fit,
-) -> bool
-    requires planned { Planned bytes.now words.now p }
-    requires from_value { from ≡ line_from bytes.now words.now p token.now }
-    requires fit_value { fit ≡ row_fit bytes.now words.now p token.now today yesterday b }
-    ensures { result ≡ some (beside (row_fit bytes.now words.now p token.now today yesterday) b) p.lines.trip.n }
+fn has_beside(line: &Line, asked: Asked, b: usize, fit: Option<Fit>) -> bool
+    requires { fit ≡ fits_of line.now asked b }
+    ensures { result ≡ some (beside (fits_of line.now asked) b) line.now.timetable.plan.lines.trip.n }
 {
-    let trip = p.lines.trip;
-    for k in from..trip.n as usize {
-        if !on_line(bytes, words, p, token, k) {
+    for k in line.from..line.timetable.plan.lines.trip.n as usize {
+        if !line.has(k) {
             return false;
         }
-        if is_beside(k, b, fit_at(bytes, words, p, today, yesterday, k), fit) {
+        if is_beside(k, b, line.fit_at(asked, k), fit) {
             return true;
         }
     }
@@ -46,24 +33,12 @@ fn has_beside(
 }
 
 // Whether row b is over a minute away and has another beside it.
-pub fn crowded(
-    bytes: &[u8],
-    words: &[u32],
-    p: Plan,
-    token: &[u8],
-    today: Count,
-    yesterday: Count,
-    from: usize,
-    b: usize,
-    fit: Fit,
-) -> bool
-    requires planned { Planned bytes.now words.now p }
-    requires from_value { from ≡ line_from bytes.now words.now p token.now }
-    requires fit_value { fit ≡ row_fit bytes.now words.now p token.now today yesterday b }
-    ensures { result ≡ is_crowded (row_fit bytes.now words.now p token.now today yesterday) p.lines.trip.n b }
+pub fn crowded(line: &Line, asked: Asked, b: usize, fit: Option<Fit>) -> bool
+    requires { fit ≡ fits_of line.now asked b }
+    ensures { result ≡ is_crowded (fits_of line.now asked) line.now.timetable.plan.lines.trip.n b }
 {
     if away_of(fit) <= 60 {
         return false;
     }
-    has_beside(bytes, words, p, token, today, yesterday, from, b, fit)
+    has_beside(line, asked, b, fit)
 }

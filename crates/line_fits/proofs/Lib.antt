@@ -1,2 +1,3 @@
--- `Best`: the row that fits best, and the rows of a line.
+-- `Best`: the row that fits best, and the rows of a line. `Lines`: where a line begins.
 pub mod Best
+pub mod Lines

@@ -3,4 +3,4 @@
 
 mod line; // a line's rows, and the one that fits best
 
-pub use line::{best_of, first_on_line, fit_at, on_line};
+pub use line::Line;

@@ -3,69 +3,13 @@
 ghost use Rattle.std.specs.Prelude.{◌≡◌};
 ghost use Rattle.ids.specs.Pool.{cell_of};
 ghost use Rattle.trip_fits.specs.Fits.{trip_fit};
-ghost use Rattle.line_fits.specs.Lines.{on_line, row_fit, line_from, kept_of, best_of, Planned};
+ghost use Rattle.line_fits.specs.Lines.{on_line, line_from, kept_of, best_of};
 
-use departure_fits::{Count, Fit, away_of};
+use departure_fits::{Fit, away_of};
 use row_lookup::seek;
 use row_stands::{Rows, stands};
 use std::cmp::Ordering;
-use trip_fits::{Plan, fit_of};
-
-// Whether row k of the line entries has the token.
-pub fn on_line(bytes: &[u8], words: &[u32], p: Plan, token: &[u8], k: usize) -> bool
-    ensures { result ≡ on_line bytes.now words.now p token.now k }
-{
-    let tokens = p.lines.token;
-    match stands(
-        bytes,
-        words,
-        Rows::Lines(tokens),
-        k,
-        token,
-        &token[..0],
-        0,
-        0,
-    ) {
-        Ordering::Less => false,
-        Ordering::Equal => true,
-        Ordering::Greater => false,
-    }
-}
-
-// How well row k's trip fits.
-pub fn fit_at(bytes: &[u8], words: &[u32], p: Plan, today: Count, yesterday: Count, k: usize) -> Fit
-    requires { Planned bytes.now words.now p }
-    ensures { result ≡ trip_fit bytes.now words.now p today yesterday (cell_of words.now p.lines.trip k) }
-{
-    let trip = p.lines.trip;
-    fit_of(
-        bytes,
-        words,
-        p,
-        today,
-        yesterday,
-        ids::cell(words, trip, k) as usize,
-    )
-}
-
-// The first row that the token has, or one past all.
-pub fn first_on_line(bytes: &[u8], words: &[u32], p: Plan, token: &[u8]) -> usize
-    requires { Planned bytes.now words.now p }
-    ensures { result ≡ line_from bytes.now words.now p token.now }
-{
-    let tokens = p.lines.token;
-    let trip = p.lines.trip;
-    seek(
-        bytes,
-        words,
-        Rows::Lines(tokens),
-        trip.n as usize,
-        token,
-        &token[..0],
-        0,
-        0,
-    )
-}
+use trip_fits::{Asked, Timetable};
 
 // The row found so far, and how far away it is.
 #[derive(Clone, Copy)]
@@ -84,34 +28,88 @@ fn kept(best: Best, away: u64, k: usize) -> Best
     best
 }
 
-// The first row of the line than which none is nearer.
-pub fn best_of(
-    bytes: &[u8],
-    words: &[u32],
-    p: Plan,
-    token: &[u8],
-    today: Count,
-    yesterday: Count,
-    from: usize,
-) -> Option<usize>
-    requires planned { Planned bytes.now words.now p }
-    requires from_value { from ≡ line_from bytes.now words.now p token.now }
-    ensures { result ≡ best_of (row_fit bytes.now words.now p token.now today yesterday) p.lines.trip.n }
-{
-    let trip = p.lines.trip;
-    let mut best = Best {
-        at: None,
-        away: 901,
-    };
-    for k in from..trip.n as usize {
-        if !on_line(bytes, words, p, token, k) {
-            return best.at;
-        }
-        best = kept(
-            best,
-            away_of(fit_at(bytes, words, p, today, yesterday, k)),
-            k,
+// The line of a token: its rows are the line entries that have it, from the first on.
+#[derive(Clone, Copy)]
+pub struct Line<'a, 'b> {
+    pub timetable: Timetable<'a>,
+    pub token: &'b [u8],
+    pub from: usize,
+    pub ghost begins: { from ≡ line_from timetable.lent.bytes.now timetable.lent.words.now timetable.plan token.now },
+}
+
+impl<'a, 'b> Line<'a, 'b> {
+    ghost use Rattle.line_fits.specs.Asked.{fits_of};
+
+    // From its first row on, or from past all where it has none.
+    pub fn new(timetable: &Timetable<'a>, token: &'b [u8]) -> Line<'a, 'b>
+        ensures timetable_is { result.timetable ≡ timetable.now }
+        ensures token_is { result.token.now ≡ token.now }
+    {
+        let lines = timetable.plan.lines;
+        let from = seek(
+            &timetable.lent,
+            Rows::Lines(lines.token),
+            lines.trip.n as usize,
+            token,
+            &token[..0],
+            0,
+            0,
         );
+        Line {
+            timetable: *timetable,
+            token,
+            from,
+        }
     }
-    best.at
+
+    // Whether row k of the line entries is its.
+    pub fn has(&self, k: usize) -> bool
+        ensures { result ≡ on_line self.now.timetable.lent.bytes.now self.now.timetable.lent.words.now self.now.timetable.plan self.now.token.now k }
+    {
+        let rows = Rows::Lines(self.timetable.plan.lines.token);
+        match stands(
+            &self.timetable.lent,
+            rows,
+            k,
+            self.token,
+            &self.token[..0],
+            0,
+            0,
+        ) {
+            Ordering::Less => false,
+            Ordering::Equal => true,
+            Ordering::Greater => false,
+        }
+    }
+
+    // The trip of row k.
+    pub fn trip_at(&self, k: usize) -> usize
+        ensures { result ≡ cell_of self.now.timetable.lent.words.now self.now.timetable.plan.lines.trip k }
+    {
+        ids::cell(self.timetable.lent.words, self.timetable.plan.lines.trip, k) as usize
+    }
+
+    // How well row k's trip fits.
+    pub fn fit_at(&self, asked: Asked, k: usize) -> Option<Fit>
+        ensures { result ≡ trip_fit self.now.timetable.lent.bytes.now self.now.timetable.lent.words.now self.now.timetable.plan asked.today asked.yesterday (cell_of self.now.timetable.lent.words.now self.now.timetable.plan.lines.trip k) }
+    {
+        self.timetable.fit_of(asked, self.trip_at(k))
+    }
+
+    // The first row than which none is nearer.
+    pub fn best_of(&self, asked: Asked) -> Option<usize>
+        ensures { result ≡ best_of (fits_of self.now asked) self.now.timetable.plan.lines.trip.n }
+    {
+        let mut best = Best {
+            at: None,
+            away: 901,
+        };
+        for k in self.from..self.timetable.plan.lines.trip.n as usize {
+            if !self.has(k) {
+                return best.at;
+            }
+            best = kept(best, away_of(self.fit_at(asked, k)), k);
+        }
+        best.at
+    }
 }

@@ -3,6 +3,8 @@ ghost use Rattle.std.specs.Prelude.{◌≡◌};
 ghost use Rattle.lengths.specs.Line.{line_of};
 ghost use Rattle.line_questions.specs.Asked.{vertices_lent, polyline_lent, position_lent, along_lent};
 
+use ids::Lent;
+use lengths::Polyline;
 use lent_distances::{between_distances, between_feed_distances};
 use stretches::Drawn;
 use tables::{Along, cut};
@@ -20,29 +22,28 @@ pub enum Question {
     Polyline,
 }
 
-fn of_line(lat: &[f64], lon: &[f64], x: &[f64]) -> Option<Drawn>
-    ensures { result ≡ vertices_lent (line_of lat.now lon.now) x.now }
+fn of_line(line: Polyline, x: &[f64]) -> Option<Drawn>
+    ensures { result ≡ vertices_lent (line_of line.entry.lat.now line.entry.lon.now) x.now }
 {
     if x.len() < 1 {
         return None;
     }
-    routes::interpolate_along_vertices(lat, lon, x[0])
+    routes::interpolate_along_vertices(line, x[0])
 }
 
-fn of_part(lat: &[f64], lon: &[f64], y: &[f64], z: &[f64], x: &[f64]) -> Option<Drawn>
-    ensures { result ≡ polyline_lent (line_of lat.now lon.now) (line_of y.now z.now) x.now }
+fn of_part(line: Polyline, y: &[f64], z: &[f64], x: &[f64]) -> Option<Drawn>
+    ensures { result ≡ polyline_lent (line_of line.entry.lat.now line.entry.lon.now) (line_of y.now z.now) x.now }
 {
-    if lengths::vertices(y, z) < 2 {
+    if lengths::vertices(Polyline { lat: y, lon: z }) < 2 {
         return None;
     }
     if x.len() < 1 {
         return None;
     }
     polylines::interpolate_polyline(
-        lat,
-        lon,
-        lengths::vertex(y, z, 0),
-        lengths::vertex(y, z, 1),
+        line,
+        lengths::vertex(Polyline { lat: y, lon: z }, 0),
+        lengths::vertex(Polyline { lat: y, lon: z }, 1),
         x[0],
     )
 }
@@ -50,26 +51,25 @@ fn of_part(lat: &[f64], lon: &[f64], y: &[f64], z: &[f64], x: &[f64]) -> Option<
 // The position asked for: y and z are the ends' latitudes and longitudes, d distances, x numbers.
 fn position(
     question: Question,
-    lat: &[f64],
-    lon: &[f64],
+    line: Polyline,
     y: &[f64],
     z: &[f64],
     d: &[f32],
     x: &[f64],
 ) -> Option<Drawn>
-    ensures { result ≡ position_lent question (line_of lat.now lon.now) (line_of y.now z.now) d.now x.now }
+    ensures { result ≡ position_lent question (line_of line.entry.lat.now line.entry.lon.now) (line_of y.now z.now) d.now x.now }
 {
     match question {
-        Question::ByDistance => between_distances(lat, lon, d, x),
-        Question::ByFeedDistance => between_feed_distances(lat, lon, d, x),
-        Question::AlongVertices => of_line(lat, lon, x),
-        Question::Polyline => of_part(lat, lon, y, z, x),
+        Question::ByDistance => between_distances(line, d, x),
+        Question::ByFeedDistance => between_feed_distances(line, d, x),
+        Question::AlongVertices => of_line(line, x),
+        Question::Polyline => of_part(line, y, z, x),
     }
 }
 
 // The position asked for, of what is not refused.
-pub fn lent(reals: &[f64], dists: &[f32], question: Question, a: Along) -> Option<Drawn>
-    ensures { result ≡ along_lent reals.now dists.now question a }
+pub fn lent(lent: &Lent, question: Question, a: Along) -> Option<Drawn>
+    ensures { result ≡ along_lent lent.now.reals.now lent.now.dists.now question a }
 {
     let lat = a.line.lat;
     let lon = a.line.lon;
@@ -79,11 +79,13 @@ pub fn lent(reals: &[f64], dists: &[f32], question: Question, a: Along) -> Optio
     let x = a.numbers;
     position(
         question,
-        cut(reals, lat),
-        cut(reals, lon),
-        cut(reals, y),
-        cut(reals, z),
-        cut(dists, d),
-        cut(reals, x),
+        Polyline {
+            lat: cut(lent.reals, lat),
+            lon: cut(lent.reals, lon),
+        },
+        cut(lent.reals, y),
+        cut(lent.reals, z),
+        cut(lent.dists, d),
+        cut(lent.reals, x),
     )
 }

@@ -4,7 +4,6 @@ use Rattle.stretches.specs.declared.drawing.Drawn.{Drawn}
 use Rattle.std.specs.Prelude.{ℕ, Float, Option, Some, None}
 use Rattle.floats.specs.Number.{nought}
 use Rattle.refusals.specs.Answer.{Answer, refused, given}
-use Rattle.line_answers.specs.Answers.{Perhaps, none, one}
 use Rattle.line_told.specs.declared.metres.MetresTold.{MetresTold}
 use Rattle.line_told.specs.declared.position.PositionTold.{PositionTold}
 use Rattle.line_told.specs.declared.scale.ScaleTold.{ScaleTold}
@@ -12,9 +11,9 @@ use Rattle.line_told.specs.declared.step.StepTold.{StepTold}
 use Rattle.line_told.specs.declared.trip.RowsTold.{RowsTold}
 use Rattle.projection.specs.declared.cursor.Step.{Step}
 
-abbrev pub scale_told : Answer (Perhaps Float) → ScaleTold
-scale_told (given (one x)) = record { scale = x; answered = 1; refusal = 0 }
-scale_told (given none) = record { scale = nought; answered = 0; refusal = 0 }
+abbrev pub scale_told : Answer (Option Float) → ScaleTold
+scale_told (given (Some x)) = record { scale = x; answered = 1; refusal = 0 }
+scale_told (given None) = record { scale = nought; answered = 0; refusal = 0 }
 scale_told (refused n) = record { scale = nought; answered = 0; refusal = n }
 
 abbrev pub metres_told : Answer (Option Affine) → MetresTold

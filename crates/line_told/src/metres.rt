@@ -1,10 +1,11 @@
 // The metres that samples' distances stand for.
 ghost use Rattle.std.specs.Prelude.{◌≡◌};
 ghost use Rattle.floats.specs.Number.{nought};
-ghost use Rattle.line_answers.specs.Answers.{calibration_answer};
+ghost use Rattle.refusals.specs.Answer.{answer_of};
 ghost use Rattle.line_told.specs.Told.{metres_told};
 
-use line_answers::Calibration;
+use refusals::Refusal;
+use unit_scales::Affine;
 
 // A distance d stands for shift + scale·d metres. `refusal`: document 01's number, or 0. `answered`: 1 with a
 // calibration, else 0, and so are its numbers.
@@ -29,17 +30,17 @@ fn no_metres(refusal: u32) -> MetresTold
     }
 }
 
-pub fn tell_metres(c: Calibration) -> MetresTold
-    ensures { result ≡ metres_told (calibration_answer c) }
+pub fn tell_metres(answer: Result<Option<Affine>, Refusal>) -> MetresTold
+    ensures { result ≡ metres_told (answer_of answer) }
 {
-    match c {
-        Calibration::By(f) => MetresTold {
+    match answer {
+        Ok(Some(f)) => MetresTold {
             shift: f.a,
             scale: f.b,
             answered: 1,
             refusal: 0,
         },
-        Calibration::Nothing => no_metres(0),
-        Calibration::Refused(n) => no_metres(n),
+        Ok(None) => no_metres(0),
+        Err(refusal) => no_metres(refusal.number()),
     }
 }

@@ -1,9 +1,10 @@
 // The position at a fraction.
 ghost use Rattle.std.specs.Prelude.{◌≡◌};
-ghost use Rattle.line_answers.specs.Answers.{interpolation_answer};
+ghost use Rattle.refusals.specs.Answer.{answer_of};
 ghost use Rattle.line_told.specs.Told.{no_position, position_told};
 
-use line_answers::Interpolation;
+use refusals::Refusal;
+use stretches::Drawn;
 
 // `refusal`: document 01's number, or 0. `answered`: 1 with a position, else 0, and so are its numbers.
 #[repr(C)]
@@ -29,18 +30,18 @@ pub fn no_position(refusal: u32) -> PositionTold
     }
 }
 
-pub fn tell_position(i: Interpolation) -> PositionTold
-    ensures { result ≡ position_told (interpolation_answer i) }
+pub fn tell_position(answer: Result<Option<Drawn>, Refusal>) -> PositionTold
+    ensures { result ≡ position_told (answer_of answer) }
 {
-    match i {
-        Interpolation::At(d) => PositionTold {
+    match answer {
+        Ok(Some(d)) => PositionTold {
             lat: d.lat,
             lon: d.lon,
             bearing: d.bearing,
             answered: 1,
             refusal: 0,
         },
-        Interpolation::Nothing => no_position(0),
-        Interpolation::Refused(n) => no_position(n),
+        Ok(None) => no_position(0),
+        Err(refusal) => no_position(refusal.number()),
     }
 }

@@ -1,10 +1,10 @@
 // The unit that a ratio is near.
 ghost use Rattle.std.specs.Prelude.{◌≡◌};
 ghost use Rattle.floats.specs.Number.{nought};
-ghost use Rattle.line_answers.specs.Answers.{snapped_answer};
+ghost use Rattle.refusals.specs.Answer.{answer_of};
 ghost use Rattle.line_told.specs.Told.{scale_told};
 
-use line_answers::Snapped;
+use refusals::Refusal;
 
 // `refusal`: document 01's number, or 0. `answered`: 1 with a scale, else 0, and so is the scale.
 #[repr(C)]
@@ -26,16 +26,16 @@ fn no_scale(refusal: u32) -> ScaleTold
     }
 }
 
-pub fn tell_scale(s: Snapped) -> ScaleTold
-    ensures { result ≡ scale_told (snapped_answer s) }
+pub fn tell_scale(answer: Result<Option<f64>, Refusal>) -> ScaleTold
+    ensures { result ≡ scale_told (answer_of answer) }
 {
-    match s {
-        Snapped::Scale(scale) => ScaleTold {
+    match answer {
+        Ok(Some(scale)) => ScaleTold {
             scale,
             answered: 1,
             refusal: 0,
         },
-        Snapped::Nothing => no_scale(0),
-        Snapped::Refused(n) => no_scale(n),
+        Ok(None) => no_scale(0),
+        Err(refusal) => no_scale(refusal.number()),
     }
 }

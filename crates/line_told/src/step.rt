@@ -1,9 +1,10 @@
 // A stop from a cursor on.
 ghost use Rattle.std.specs.Prelude.{◌≡◌};
-ghost use Rattle.line_answers.specs.Answers.{step_answer};
+ghost use Rattle.refusals.specs.Answer.{answer_of};
 ghost use Rattle.line_told.specs.Told.{step_told};
 
-use line_answers::Stepped;
+use projection::Step;
+use refusals::Refusal;
 
 // `refusal`: document 01's number, or 0. Where it is refused, the next cursor and the vertex are 0.
 #[repr(C)]
@@ -14,19 +15,19 @@ pub struct StepTold {
     pub refusal: u32,
 }
 
-pub fn tell_step(s: Stepped) -> StepTold
-    ensures { result ≡ step_told (step_answer s) }
+pub fn tell_step(answer: Result<Step, Refusal>) -> StepTold
+    ensures { result ≡ step_told (answer_of answer) }
 {
-    match s {
-        Stepped::To(step) => StepTold {
+    match answer {
+        Ok(step) => StepTold {
             cursor: step.cursor.at,
             vertex: step.vertex,
             refusal: 0,
         },
-        Stepped::Refused(refusal) => StepTold {
+        Err(refusal) => StepTold {
             cursor: 0,
             vertex: 0,
-            refusal,
+            refusal: refusal.number(),
         },
     }
 }

@@ -1,9 +1,9 @@
 // A trip's stops.
 ghost use Rattle.std.specs.Prelude.{◌≡◌};
-ghost use Rattle.line_answers.specs.Answers.{project_answer};
+ghost use Rattle.refusals.specs.Answer.{answer_of};
 ghost use Rattle.line_told.specs.Told.{rows_told};
 
-use line_answers::Projected;
+use refusals::{Refusal, told};
 
 // `refusal`: document 01's number, or 0. `rows`: how many rows of the output are written; 0 where it is refused.
 #[repr(C)]
@@ -13,11 +13,10 @@ pub struct RowsTold {
     pub refusal: u32,
 }
 
-pub fn tell_rows(p: Projected) -> RowsTold
-    ensures { result ≡ rows_told (project_answer p) }
+pub fn tell_rows(answer: Result<usize, Refusal>) -> RowsTold
+    ensures { result ≡ rows_told (answer_of answer) }
 {
-    match p {
-        Projected::Rows(rows) => RowsTold { rows, refusal: 0 },
-        Projected::Refused(refusal) => RowsTold { rows: 0, refusal },
-    }
+    let mut rows = 0;
+    let refusal = told(answer, &mut rows);
+    RowsTold { rows, refusal }
 }

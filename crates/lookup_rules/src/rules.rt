@@ -7,8 +7,9 @@ ghost use Rattle.lookup_rules.specs.Parts.{id_rows_causes, aliases_causes, lines
 
 use column_order::Key;
 use faults::Test;
+use ids::Lent;
 use refusals::Refusal;
-use tables::{Aliases, Bounds, IdRows, Lent, Lines, Mark, Pool};
+use tables::{Aliases, Bounds, IdRows, Lines, Mark, Pool};
 use verdicts::Verdict;
 
 // Ids that ascend, each with the row of one of `records`; no more than `most`.

@@ -4,6 +4,7 @@ ghost use Rattle.ids.specs.Pool.{id_of};
 ghost use Rattle.ids.specs.Rows.{GoodIds};
 ghost use Rattle.made_ids.specs.Made.{feed_of, built_of};
 
+use ids::Lent;
 use tables::IdRows;
 use trip_ids::trip_at;
 
@@ -18,18 +19,18 @@ fn feed<'a>(base: &'a [u8]) -> &'a [u8]
 }
 
 // The trip whose id is made of the ref's feed and its journey id, where that is a UUID.
-pub fn built(bytes: &[u8], words: &[u32], tripkeys: IdRows, base: &[u8]) -> Option<usize>
-    requires { GoodIds (id_of bytes.now words.now tripkeys.id) tripkeys.id.starts.n }
-    ensures { result ≡ built_of bytes.now words.now tripkeys base.now }
+pub fn built(lent: &Lent, tripkeys: IdRows, base: &[u8]) -> Option<usize>
+    requires { GoodIds (id_of lent.now.bytes.now lent.now.words.now tripkeys.id) tripkeys.id.starts.n }
+    ensures { result ≡ built_of lent.now.bytes.now lent.now.words.now tripkeys base.now }
 {
     let id = tripkeys.id;
     let row = tripkeys.row;
     let j = refs::journey_id(base);
     if uuids::is_uuid(j) {
         return trip_at(
-            words,
+            lent.words,
             row,
-            keys::find_joined(bytes, words, id, b"", feed(base), b":IDFM:TN:SNCF:", j),
+            keys::find_joined(lent, id, b"", feed(base), b":IDFM:TN:SNCF:", j),
         );
     }
     None

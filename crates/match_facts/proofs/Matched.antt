@@ -49,7 +49,7 @@ if_unset true f s e = clash (cc)
 if_unset false f s e = e
 
 -- the best of n rows is one of them
-best_below : (fits : ℕ → Fit) (n b : ℕ) → best_of fits n ≡ Some b → b < n
+best_below : (fits : ℕ → Option Fit) (n b : ℕ) → best_of fits n ≡ Some b → b < n
 unfolding best_of
 best_below fits zero b e = clash (cc)
 best_below fits (suc n) b e = go (best_below fits n b) (ltb (away (fits n)) (least_of fits (best_of fits n))) e
@@ -58,7 +58,7 @@ best_below fits (suc n) b e = go (best_below fits n b) (ltb (away (fits n)) (lea
     go before true q = let h : n ≡ b = cc in omega arith
     go before false q = let h = before q in omega arith
 
-alone_is : (fits : ℕ → Fit) (n : ℕ) (f : Option ℕ) (b : ℕ) → alone fits n f ≡ Some b → f ≡ Some b
+alone_is : (fits : ℕ → Option Fit) (n : ℕ) (f : Option ℕ) (b : ℕ) → alone fits n f ≡ Some b → f ≡ Some b
 alone_is fits n (Some k) b e = if_unset (is_crowded fits n k) (Some k) b e
 alone_is fits n None b e = e
 
@@ -119,7 +119,7 @@ module _ (bytes words : List ℕ) (Q : ℕ → Type 0) where
     unfolding line_trip
     line_holds token today yesterday s e = go (alone fits p.lines.trip.n (best_of fits p.lines.trip.n)) refl e
       where
-        fits : ℕ → Fit
+        fits : ℕ → Option Fit
         fits = row_fit bytes words p token today yesterday
 
         go : (f : Option ℕ) → alone (row_fit bytes words p token today yesterday) p.lines.trip.n (best_of (row_fit bytes words p token today yesterday) p.lines.trip.n) ≡ f → line_at words p f ≡ Some s → Q s

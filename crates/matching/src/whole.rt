@@ -1,13 +1,13 @@
 // Every way of finding a trip, in its turn.
 ghost use Rattle.std.specs.Prelude.{◌≡◌};
-ghost use Rattle.line_fits.specs.Lines.{Planned};
-ghost use Rattle.trip_times.specs.Line.{ShortTokens};
 ghost use Rattle.matching.specs.Matching.{timed_trip, match_of, Ready};
 
+use alias_keys::TripIds;
 use departure_fits::Count;
+use ids::Lent;
 use named_trips::by_id;
 use tables::{Aliases, IdRows};
-use trip_fits::Plan;
+use trip_fits::{Asked, Plan, Timetable};
 use trip_tails::by_tail;
 use trip_times::by_token;
 
@@ -20,18 +20,13 @@ pub struct Named {
 
 // By the line, of the route or else of the journey, and the first departure, if there is one.
 fn by_time<'a>(
-    bytes: &[u8],
-    words: &[u32],
-    p: Plan,
+    timetable: &Timetable,
     base: &'a [u8],
     route: &'a [u8],
     departs: bool,
-    today: Count,
-    yesterday: Count,
+    asked: Asked,
 ) -> Option<usize>
-    requires planned { Planned bytes.now words.now p }
-    requires short_tokens { ShortTokens bytes.now words.now p }
-    ensures { result ≡ timed_trip bytes.now words.now p base.now route.now departs today yesterday }
+    ensures { result ≡ timed_trip timetable.now.lent.bytes.now timetable.now.lent.words.now timetable.now.plan base.now route.now departs asked.today asked.yesterday }
 {
     let token = tokens::token_of(route, base);
     if !departs {
@@ -40,14 +35,14 @@ fn by_time<'a>(
     if token.len() == 0 {
         return None;
     }
-    by_token(bytes, words, p, token, today, yesterday)
+    by_token(timetable, token, asked)
 }
 
 // The trip that a base key stands for: as an id, by its aliases, by an id made of its parts, by line and time, by its tail. The moment of
 // the first departure is given as a count of seconds in its own service day and in the one before.
+#[tactic(auto, unfolding(crate::specs::Matching::match_of))]
 pub fn resolve<'a>(
-    bytes: &[u8],
-    words: &[u32],
+    lent: &Lent,
     n: Named,
     p: Plan,
     base: &'a [u8],
@@ -56,18 +51,24 @@ pub fn resolve<'a>(
     today: Count,
     yesterday: Count,
 ) -> Option<usize>
-    requires { Ready bytes.now words.now n p }
-    ensures { result ≡ match_of bytes.now words.now n p base.now route.now departs today yesterday }
+    requires { Ready lent.now.bytes.now lent.now.words.now n p }
+    ensures { result ≡ match_of lent.now.bytes.now lent.now.words.now n p base.now route.now departs today yesterday }
 {
-    let tripkeys = n.tripkeys;
-    let aliases = n.aliases;
-    match by_id(bytes, words, tripkeys, aliases, base) {
-        Some(trip) => return Some(trip),
-        None => {}
+    let trips = TripIds {
+        lent: *lent,
+        tripkeys: n.tripkeys,
+        aliases: n.aliases,
+    };
+    if let Some(trip) = by_id(&trips, base) {
+        return Some(trip);
     }
-    match by_time(bytes, words, p, base, route, departs, today, yesterday) {
-        Some(trip) => return Some(trip),
-        None => {}
+    let timetable = Timetable {
+        lent: *lent,
+        plan: p,
+    };
+    let asked = Asked { today, yesterday };
+    if let Some(trip) = by_time(&timetable, base, route, departs, asked) {
+        return Some(trip);
     }
-    by_tail(bytes, words, tripkeys, base)
+    by_tail(lent, n.tripkeys, base)
 }

@@ -1,31 +1,22 @@
 // A trip by all that comes before route and time.
 ghost use Rattle.std.specs.Prelude.{◌≡◌};
-ghost use Rattle.alias_keys.specs.Aliases.{Known};
 ghost use Rattle.named_trips.specs.Named.{id_trip};
 
+use alias_keys::TripIds;
 use made_ids::built;
-use tables::{Aliases, IdRows};
 use trip_aliases::by_alias;
 use trip_ids::by_key;
 
 // The trip that a base key names: as its id, by its aliases, or by the id made of its parts.
-pub fn by_id(
-    bytes: &[u8],
-    words: &[u32],
-    tripkeys: IdRows,
-    aliases: Aliases,
-    base: &[u8],
-) -> Option<usize>
-    requires { Known bytes.now words.now tripkeys aliases }
-    ensures { result ≡ id_trip bytes.now words.now tripkeys aliases base.now }
+#[tactic(auto, unfolding(crate::specs::Named::id_trip))]
+pub fn by_id(trips: &TripIds, base: &[u8]) -> Option<usize>
+    ensures { result ≡ id_trip trips.now.lent.bytes.now trips.now.lent.words.now trips.now.tripkeys trips.now.aliases base.now }
 {
-    match by_key(bytes, words, tripkeys, base) {
-        Some(k) => return Some(k),
-        None => {}
+    if let Some(k) = by_key(&trips.lent, trips.tripkeys, base) {
+        return Some(k);
     }
-    match by_alias(bytes, words, tripkeys, aliases, base) {
-        Some(k) => return Some(k),
-        None => {}
+    if let Some(k) = by_alias(trips, base) {
+        return Some(k);
     }
-    built(bytes, words, tripkeys, base)
+    built(&trips.lent, trips.tripkeys, base)
 }

@@ -10,7 +10,7 @@ ghost use Rattle.nearest.specs.Squares.{square_of, squares_of, least_in, first_n
 ghost use Rattle.roots.specs.Root.{root_of};
 
 use ieee::least;
-use lengths::{Point, vertex, vertices};
+use lengths::{Point, Polyline, vertex, vertices};
 
 // The square of the distance between two points.
 #[tactic(auto, unfolding(crate::specs::Squares::square_of))]
@@ -24,12 +24,12 @@ fn square(p: Point, q: Point) -> f64
 
 // The least square that is no NaN, and infinity where there is none.
 #[tactic(auto, using(crate::proofs::Squares::least_next, crate::proofs::Squares::least_over))]
-fn least_square(lat: &[f64], lon: &[f64], stop: Point) -> f64
-    ensures { result ≡ least_in (squares_of stop (line_of lat.now lon.now)) }
+fn least_square(line: Polyline, stop: Point) -> f64
+    ensures { result ≡ least_in (squares_of stop (line_of line.entry.lat.now line.entry.lon.now)) }
 {
     let mut best = f64::INFINITY;
-    for k in 0..vertices(lat, lon) {
-        best = least(best, square(vertex(lat, lon, k), stop));
+    for k in 0..vertices(line) {
+        best = least(best, square(vertex(line, k), stop));
     }
     best
 }
@@ -49,12 +49,12 @@ fn far_from(square: f64, distance: f64) -> f64
 
 // The first vertex at a distance, or nearer; 0 where there is none.
 #[tactic(auto, using(crate::proofs::Squares::near_hit, crate::proofs::Squares::near_miss, crate::proofs::Squares::near_over))]
-fn first_near(lat: &[f64], lon: &[f64], stop: Point, distance: f64, far: f64) -> usize
+fn first_near(line: Polyline, stop: Point, distance: f64, far: f64) -> usize
     requires { Far distance far }
-    ensures { result ≡ first_near distance 0 (squares_of stop (line_of lat.now lon.now)) }
+    ensures { result ≡ first_near distance 0 (squares_of stop (line_of line.entry.lat.now line.entry.lon.now)) }
 {
-    for k in 0..vertices(lat, lon) {
-        if is_near(square(vertex(lat, lon, k), stop), distance, far) {
+    for k in 0..vertices(line) {
+        if is_near(square(vertex(line, k), stop), distance, far) {
             return k;
         }
     }
@@ -70,13 +70,13 @@ fn is_near(square: f64, distance: f64, far: f64) -> bool
 }
 
 // The first where two are as near, and 0 where no distance is a number.
-pub fn nearest_idx(lat: &[f64], lon: &[f64], stop: Point) -> usize
-    ensures { result ≡ nearest_of (line_of lat.now lon.now) stop }
+pub fn nearest_idx(line: Polyline, stop: Point) -> usize
+    ensures { result ≡ nearest_of (line_of line.entry.lat.now line.entry.lon.now) stop }
 {
-    let least = least_square(lat, lon, stop);
+    let least = least_square(line, stop);
     let distance = roots::root(least);
     if distance < f64::MAX {
-        first_near(lat, lon, stop, distance, far_from(least, distance))
+        first_near(line, stop, distance, far_from(least, distance))
     } else {
         0
     }

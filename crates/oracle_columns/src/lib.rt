@@ -10,7 +10,7 @@ ghost use Rattle.column_order.specs.Order.{out_of_order_at};
 ghost use Rattle.column_order.specs.declared.order.Key.TheVariants.{Id};
 
 use column_order::Key;
-use ids::{IdColumn, Span};
+use ids::{IdColumn, Lent, Span};
 
 #[unsafe(no_mangle)]
 pub extern "C" fn zebumorn_reaches(s: &[u32], flags: &[u8], all: bool, n: u64) -> bool
@@ -68,5 +68,15 @@ pub extern "C" fn zebumorn_ids_unsorted(bytes: &[u8], words: &[u32], n: u32) -> 
     let starts = Span { at: 0, n };
     let lens = Span { at: n, n };
     let ids = IdColumn { starts, lens };
-    column_order::unsorted(bytes, words, Key::Id(ids), n as usize)
+    column_order::unsorted(
+        &Lent {
+            bytes,
+            words,
+            times: &[],
+            reals: &[],
+            dists: &[],
+        },
+        Key::Id(ids),
+        n as usize,
+    )
 }

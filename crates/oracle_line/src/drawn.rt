@@ -8,7 +8,7 @@ ghost use Rattle.routes.specs.Route.{along_vertices};
 ghost use Rattle.polylines.specs.Polyline.{polyline_of};
 ghost use Rattle.oracle_line.specs.Asked.{is_at, lat_or, lon_or, bearing_or};
 
-use lengths::Point;
+use lengths::{Point, Polyline};
 use stretches::Drawn;
 
 // Writes a position, and says whether there is one.
@@ -30,8 +30,7 @@ fn write_position(drawn: Option<Drawn>, y: &mut f64, x: &mut f64, bearing: &mut 
 }
 
 pub fn zebumorn_interpolate_shape_by_dist(
-    lat: &[f64],
-    lon: &[f64],
+    line: Polyline,
     d0: f32,
     d1: f32,
     frac: f64,
@@ -39,18 +38,17 @@ pub fn zebumorn_interpolate_shape_by_dist(
     x: &mut f64,
     bearing: &mut f64,
 ) -> bool
-    ensures value { result ≡ is_at (by_dist (line_of lat.now lon.now) d0 d1 frac) }
-    ensures y_after { y.new ≡ lat_or (by_dist (line_of lat.now lon.now) d0 d1 frac) y.old }
-    ensures x_after { x.new ≡ lon_or (by_dist (line_of lat.now lon.now) d0 d1 frac) x.old }
-    ensures bearing_after { bearing.new ≡ bearing_or (by_dist (line_of lat.now lon.now) d0 d1 frac) bearing.old }
+    ensures value { result ≡ is_at (by_dist (line_of line.entry.lat.now line.entry.lon.now) d0 d1 frac) }
+    ensures y_after { y.new ≡ lat_or (by_dist (line_of line.entry.lat.now line.entry.lon.now) d0 d1 frac) y.old }
+    ensures x_after { x.new ≡ lon_or (by_dist (line_of line.entry.lat.now line.entry.lon.now) d0 d1 frac) x.old }
+    ensures bearing_after { bearing.new ≡ bearing_or (by_dist (line_of line.entry.lat.now line.entry.lon.now) d0 d1 frac) bearing.old }
 {
-    let drawn = by_distance::interpolate_shape_by_dist(lat, lon, d0, d1, frac);
+    let drawn = by_distance::interpolate_shape_by_dist(line, d0, d1, frac);
     write_position(drawn, y, x, bearing)
 }
 
 pub fn zebumorn_interpolate_shape_by_feed_dist(
-    lat: &[f64],
-    lon: &[f64],
+    line: Polyline,
     d0: f32,
     d1: f32,
     frac: f64,
@@ -60,35 +58,33 @@ pub fn zebumorn_interpolate_shape_by_feed_dist(
     x: &mut f64,
     bearing: &mut f64,
 ) -> bool
-    ensures value { result ≡ is_at (by_feed_dist (line_of lat.now lon.now) d0 d1 frac a b) }
-    ensures y_after { y.new ≡ lat_or (by_feed_dist (line_of lat.now lon.now) d0 d1 frac a b) y.old }
-    ensures x_after { x.new ≡ lon_or (by_feed_dist (line_of lat.now lon.now) d0 d1 frac a b) x.old }
-    ensures bearing_after { bearing.new ≡ bearing_or (by_feed_dist (line_of lat.now lon.now) d0 d1 frac a b) bearing.old }
+    ensures value { result ≡ is_at (by_feed_dist (line_of line.entry.lat.now line.entry.lon.now) d0 d1 frac a b) }
+    ensures y_after { y.new ≡ lat_or (by_feed_dist (line_of line.entry.lat.now line.entry.lon.now) d0 d1 frac a b) y.old }
+    ensures x_after { x.new ≡ lon_or (by_feed_dist (line_of line.entry.lat.now line.entry.lon.now) d0 d1 frac a b) x.old }
+    ensures bearing_after { bearing.new ≡ bearing_or (by_feed_dist (line_of line.entry.lat.now line.entry.lon.now) d0 d1 frac a b) bearing.old }
 {
-    let drawn = by_distance::interpolate_shape_by_feed_dist(lat, lon, d0, d1, frac, a, b);
+    let drawn = by_distance::interpolate_shape_by_feed_dist(line, d0, d1, frac, a, b);
     write_position(drawn, y, x, bearing)
 }
 
 pub fn zebumorn_interpolate_along_vertices(
-    lat: &[f64],
-    lon: &[f64],
+    line: Polyline,
     frac: f64,
     y: &mut f64,
     x: &mut f64,
     bearing: &mut f64,
 ) -> bool
-    ensures value { result ≡ is_at (along_vertices (line_of lat.now lon.now) frac) }
-    ensures y_after { y.new ≡ lat_or (along_vertices (line_of lat.now lon.now) frac) y.old }
-    ensures x_after { x.new ≡ lon_or (along_vertices (line_of lat.now lon.now) frac) x.old }
-    ensures bearing_after { bearing.new ≡ bearing_or (along_vertices (line_of lat.now lon.now) frac) bearing.old }
+    ensures value { result ≡ is_at (along_vertices (line_of line.entry.lat.now line.entry.lon.now) frac) }
+    ensures y_after { y.new ≡ lat_or (along_vertices (line_of line.entry.lat.now line.entry.lon.now) frac) y.old }
+    ensures x_after { x.new ≡ lon_or (along_vertices (line_of line.entry.lat.now line.entry.lon.now) frac) x.old }
+    ensures bearing_after { bearing.new ≡ bearing_or (along_vertices (line_of line.entry.lat.now line.entry.lon.now) frac) bearing.old }
 {
-    let drawn = routes::interpolate_along_vertices(lat, lon, frac);
+    let drawn = routes::interpolate_along_vertices(line, frac);
     write_position(drawn, y, x, bearing)
 }
 
 pub fn zebumorn_interpolate_polyline(
-    lat: &[f64],
-    lon: &[f64],
+    line: Polyline,
     y0: f64,
     x0: f64,
     y1: f64,
@@ -98,20 +94,20 @@ pub fn zebumorn_interpolate_polyline(
     x: &mut f64,
     bearing: &mut f64,
 ) -> bool
-    ensures value { result ≡ is_at (polyline_of (line_of lat.entry.now lon.now) (record { lat = y0; lon = x0 }) (record { lat = y1; lon = x1 }) frac) }
-    ensures y_after { y.new ≡ lat_or (polyline_of (line_of lat.entry.now lon.now) (record { lat = y0; lon = x0 }) (record { lat = y1; lon = x1 }) frac) y.old }
-    ensures x_after { x.new ≡ lon_or (polyline_of (line_of lat.entry.now lon.now) (record { lat = y0; lon = x0 }) (record { lat = y1; lon = x1 }) frac) x.old }
-    ensures bearing_after { bearing.new ≡ bearing_or (polyline_of (line_of lat.entry.now lon.now) (record { lat = y0; lon = x0 }) (record { lat = y1; lon = x1 }) frac) bearing.old }
+    ensures value { result ≡ is_at (polyline_of (line_of line.entry.lat.now line.entry.lon.now) (record { lat = y0; lon = x0 }) (record { lat = y1; lon = x1 }) frac) }
+    ensures y_after { y.new ≡ lat_or (polyline_of (line_of line.entry.lat.now line.entry.lon.now) (record { lat = y0; lon = x0 }) (record { lat = y1; lon = x1 }) frac) y.old }
+    ensures x_after { x.new ≡ lon_or (polyline_of (line_of line.entry.lat.now line.entry.lon.now) (record { lat = y0; lon = x0 }) (record { lat = y1; lon = x1 }) frac) x.old }
+    ensures bearing_after { bearing.new ≡ bearing_or (polyline_of (line_of line.entry.lat.now line.entry.lon.now) (record { lat = y0; lon = x0 }) (record { lat = y1; lon = x1 }) frac) bearing.old }
 {
     let prev = Point { lat: y0, lon: x0 };
     let next = Point { lat: y1, lon: x1 };
-    let drawn = polylines::interpolate_polyline(lat, lon, prev, next, frac);
+    let drawn = polylines::interpolate_polyline(line, prev, next, frac);
     write_position(drawn, y, x, bearing)
 }
 
-pub fn zebumorn_nearest_idx(lat: &[f64], lon: &[f64], y: f64, x: f64) -> usize
-    ensures { result ≡ nearest_of (line_of lat.entry.now lon.now) (record { lat = y; lon = x }) }
+pub fn zebumorn_nearest_idx(line: Polyline, y: f64, x: f64) -> usize
+    ensures { result ≡ nearest_of (line_of line.entry.lat.now line.entry.lon.now) (record { lat = y; lon = x }) }
 {
     let stop = Point { lat: y, lon: x };
-    nearest::nearest_idx(lat, lon, stop)
+    nearest::nearest_idx(line, stop)
 }

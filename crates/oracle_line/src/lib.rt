@@ -18,28 +18,28 @@ pub use drawn::{
     zebumorn_interpolate_shape_by_dist, zebumorn_interpolate_shape_by_feed_dist,
     zebumorn_nearest_idx,
 };
-use lengths::Point;
+use lengths::{Point, Polyline};
 use projection::Cursor;
 use unit_scales::Affine;
 
-pub fn zebumorn_length_to(lat: &[f64], lon: &[f64], k: usize) -> f64
-    ensures { result ≡ length_to (line_of lat.now lon.now) k }
+pub fn zebumorn_length_to(line: Polyline, k: usize) -> f64
+    ensures { result ≡ length_to (line_of line.entry.lat.now line.entry.lon.now) k }
 {
-    running_lengths::length_to(lat, lon, k)
+    running_lengths::length_to(line, k)
 }
 
-pub fn zebumorn_forward_shape_index(lat: &[f64], lon: &[f64], from: usize, y: f64, x: f64) -> usize
-    ensures { result ≡ forward_shape_index (line_of lat.entry.now lon.now) from (record { lat = y; lon = x }) }
+pub fn zebumorn_forward_shape_index(line: Polyline, from: usize, y: f64, x: f64) -> usize
+    ensures { result ≡ forward_shape_index (line_of line.entry.lat.now line.entry.lon.now) from (record { lat = y; lon = x }) }
 {
     let stop = Point { lat: y, lon: x };
-    near_vertex::forward_shape_index(lat, lon, from, stop)
+    near_vertex::forward_shape_index(line, from, stop)
 }
 
-pub fn zebumorn_forward_last_index(lat: &[f64], lon: &[f64], from: usize, y: f64, x: f64) -> usize
-    ensures { result ≡ forward_last_index (line_of lat.entry.now lon.now) from (record { lat = y; lon = x }) }
+pub fn zebumorn_forward_last_index(line: Polyline, from: usize, y: f64, x: f64) -> usize
+    ensures { result ≡ forward_last_index (line_of line.entry.lat.now line.entry.lon.now) from (record { lat = y; lon = x }) }
 {
     let stop = Point { lat: y, lon: x };
-    near_vertex::forward_last_index(lat, lon, from, stop)
+    near_vertex::forward_last_index(line, from, stop)
 }
 
 // The stop's position, if it is known.
@@ -66,18 +66,17 @@ fn or_other(found: Option<usize>, other: usize) -> usize
 // The cursor goes from `at` to the answer; the stop's vertex goes to `vertex`, which stays as it was
 // where the stop has none.
 pub fn zebumorn_pass(
-    lat: &[f64],
-    lon: &[f64],
+    line: Polyline,
     at: usize,
     known: bool,
     y: f64,
     x: f64,
     vertex: &mut usize,
 ) -> usize
-    ensures value { result ≡ (passed_of (line_of lat.now lon.now) (record { at = at }) (position_of known y x)).cursor.at }
-    ensures vertex_after { vertex.new ≡ or_vertex (passed_of (line_of lat.now lon.now) (record { at = at }) (position_of known y x)).vertex vertex.old }
+    ensures value { result ≡ (passed_of (line_of line.entry.lat.now line.entry.lon.now) (record { at = at }) (position_of known y x)).cursor.at }
+    ensures vertex_after { vertex.new ≡ or_vertex (passed_of (line_of line.entry.lat.now line.entry.lon.now) (record { at = at }) (position_of known y x)).vertex vertex.old }
 {
-    let passed = Cursor { at }.pass(lat, lon, position(known, y, x));
+    let passed = Cursor { at }.pass(line, position(known, y, x));
     *vertex = or_other(passed.vertex, *vertex);
     passed.cursor.at
 }
@@ -106,8 +105,7 @@ pub fn write_affine(answer: Option<Affine>, a: &mut f64, b: &mut f64) -> bool
 
 // The start and the scale go to `a` and `b`, which stay as they were where there is no answer.
 pub fn zebumorn_shape_dist_affine(
-    lat: &[f64],
-    lon: &[f64],
+    line: Polyline,
     y0: f64,
     x0: f64,
     d0: f64,
@@ -117,9 +115,9 @@ pub fn zebumorn_shape_dist_affine(
     a: &mut f64,
     b: &mut f64,
 ) -> bool
-    ensures value { result ≡ is_by (affine_asked lat.now lon.now y0 x0 d0 y1 x1 d1) }
-    ensures a_after { a.new ≡ start_or (affine_asked lat.now lon.now y0 x0 d0 y1 x1 d1) a.old }
-    ensures b_after { b.new ≡ scale_or (affine_asked lat.now lon.now y0 x0 d0 y1 x1 d1) b.old }
+    ensures value { result ≡ is_by (affine_asked line.entry.lat.now line.entry.lon.now y0 x0 d0 y1 x1 d1) }
+    ensures a_after { a.new ≡ start_or (affine_asked line.entry.lat.now line.entry.lon.now y0 x0 d0 y1 x1 d1) a.old }
+    ensures b_after { b.new ≡ scale_or (affine_asked line.entry.lat.now line.entry.lon.now y0 x0 d0 y1 x1 d1) b.old }
 {
     let first = Sample {
         at: Point { lat: y0, lon: x0 },
@@ -129,5 +127,5 @@ pub fn zebumorn_shape_dist_affine(
         at: Point { lat: y1, lon: x1 },
         dist: d1,
     };
-    write_affine(calibration::shape_dist_affine(lat, lon, first, last), a, b)
+    write_affine(calibration::shape_dist_affine(line, first, last), a, b)
 }

@@ -14,11 +14,13 @@ ghost use Rattle.running_lengths.specs.Length.{length_to};
 ghost use Rattle.unit_scales.specs.Scale.{snap_unit_scale};
 ghost use Rattle.oracle_line.specs.Asked.{affine_asked, bearing_or, is_at, is_by, lat_or, lon_or, position_of, scale_or, start_or};
 
+use lengths::Polyline;
+
 #[unsafe(no_mangle)]
 pub extern "C" fn zebumorn_length_to(lat: &[f64], lon: &[f64], k: usize) -> f64
     ensures { result ≡ length_to (line_of lat.now lon.now) k }
 {
-    oracle_line::zebumorn_length_to(lat, lon, k)
+    oracle_line::zebumorn_length_to(Polyline { lat, lon }, k)
 }
 
 #[unsafe(no_mangle)]
@@ -31,7 +33,7 @@ pub extern "C" fn zebumorn_forward_shape_index(
 ) -> usize
     ensures { result ≡ forward_shape_index (line_of lat.entry.now lon.now) from (record { lat = y; lon = x }) }
 {
-    oracle_line::zebumorn_forward_shape_index(lat, lon, from, y, x)
+    oracle_line::zebumorn_forward_shape_index(Polyline { lat, lon }, from, y, x)
 }
 
 #[unsafe(no_mangle)]
@@ -44,7 +46,7 @@ pub extern "C" fn zebumorn_forward_last_index(
 ) -> usize
     ensures { result ≡ forward_last_index (line_of lat.entry.now lon.now) from (record { lat = y; lon = x }) }
 {
-    oracle_line::zebumorn_forward_last_index(lat, lon, from, y, x)
+    oracle_line::zebumorn_forward_last_index(Polyline { lat, lon }, from, y, x)
 }
 
 // The cursor goes from `at` to the answer; the stop's vertex goes to `vertex`, which stays as it was
@@ -62,7 +64,7 @@ pub extern "C" fn zebumorn_pass(
     ensures value { result ≡ (passed_of (line_of lat.now lon.now) (record { at = at }) (position_of known y x)).cursor.at }
     ensures vertex_after { vertex.new ≡ or_vertex (passed_of (line_of lat.now lon.now) (record { at = at }) (position_of known y x)).vertex vertex.old }
 {
-    oracle_line::zebumorn_pass(lat, lon, at, known, y, x, vertex)
+    oracle_line::zebumorn_pass(Polyline { lat, lon }, at, known, y, x, vertex)
 }
 
 #[unsafe(no_mangle)]
@@ -90,7 +92,7 @@ pub extern "C" fn zebumorn_shape_dist_affine(
     ensures a_after { a.new ≡ start_or (affine_asked lat.now lon.now y0 x0 d0 y1 x1 d1) a.old }
     ensures b_after { b.new ≡ scale_or (affine_asked lat.now lon.now y0 x0 d0 y1 x1 d1) b.old }
 {
-    oracle_line::zebumorn_shape_dist_affine(lat, lon, y0, x0, d0, y1, x1, d1, a, b)
+    oracle_line::zebumorn_shape_dist_affine(Polyline { lat, lon }, y0, x0, d0, y1, x1, d1, a, b)
 }
 
 #[unsafe(no_mangle)]
@@ -109,7 +111,15 @@ pub extern "C" fn zebumorn_interpolate_shape_by_dist(
     ensures x_after { x.new ≡ lon_or (by_dist (line_of lat.now lon.now) d0 d1 frac) x.old }
     ensures bearing_after { bearing.new ≡ bearing_or (by_dist (line_of lat.now lon.now) d0 d1 frac) bearing.old }
 {
-    oracle_line::zebumorn_interpolate_shape_by_dist(lat, lon, d0, d1, frac, y, x, bearing)
+    oracle_line::zebumorn_interpolate_shape_by_dist(
+        Polyline { lat, lon },
+        d0,
+        d1,
+        frac,
+        y,
+        x,
+        bearing,
+    )
 }
 
 #[unsafe(no_mangle)]
@@ -131,7 +141,15 @@ pub extern "C" fn zebumorn_interpolate_shape_by_feed_dist(
     ensures bearing_after { bearing.new ≡ bearing_or (by_feed_dist (line_of lat.now lon.now) d0 d1 frac a b) bearing.old }
 {
     oracle_line::zebumorn_interpolate_shape_by_feed_dist(
-        lat, lon, d0, d1, frac, a, b, y, x, bearing,
+        Polyline { lat, lon },
+        d0,
+        d1,
+        frac,
+        a,
+        b,
+        y,
+        x,
+        bearing,
     )
 }
 
@@ -149,7 +167,7 @@ pub extern "C" fn zebumorn_interpolate_along_vertices(
     ensures x_after { x.new ≡ lon_or (along_vertices (line_of lat.now lon.now) frac) x.old }
     ensures bearing_after { bearing.new ≡ bearing_or (along_vertices (line_of lat.now lon.now) frac) bearing.old }
 {
-    oracle_line::zebumorn_interpolate_along_vertices(lat, lon, frac, y, x, bearing)
+    oracle_line::zebumorn_interpolate_along_vertices(Polyline { lat, lon }, frac, y, x, bearing)
 }
 
 #[unsafe(no_mangle)]
@@ -170,12 +188,22 @@ pub extern "C" fn zebumorn_interpolate_polyline(
     ensures x_after { x.new ≡ lon_or (polyline_of (line_of lat.entry.now lon.now) (record { lat = y0; lon = x0 }) (record { lat = y1; lon = x1 }) frac) x.old }
     ensures bearing_after { bearing.new ≡ bearing_or (polyline_of (line_of lat.entry.now lon.now) (record { lat = y0; lon = x0 }) (record { lat = y1; lon = x1 }) frac) bearing.old }
 {
-    oracle_line::zebumorn_interpolate_polyline(lat, lon, y0, x0, y1, x1, frac, y, x, bearing)
+    oracle_line::zebumorn_interpolate_polyline(
+        Polyline { lat, lon },
+        y0,
+        x0,
+        y1,
+        x1,
+        frac,
+        y,
+        x,
+        bearing,
+    )
 }
 
 #[unsafe(no_mangle)]
 pub extern "C" fn zebumorn_nearest_idx(lat: &[f64], lon: &[f64], y: f64, x: f64) -> usize
     ensures { result ≡ nearest_of (line_of lat.entry.now lon.now) (record { lat = y; lon = x }) }
 {
-    oracle_line::zebumorn_nearest_idx(lat, lon, y, x)
+    oracle_line::zebumorn_nearest_idx(Polyline { lat, lon }, y, x)
 }

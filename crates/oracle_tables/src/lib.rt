@@ -8,7 +8,7 @@ ghost use Rattle.oracle_line.specs.Asked.{is_by, scale_or, start_or};
 ghost use Rattle.oracle_tables.specs.Asked.{course_of, span_at};
 
 use courses::Course;
-use ids::{IdColumn, Span};
+use ids::{IdColumn, Lent, Span};
 use tables::{Points, Shapes, StopTimes, Stops, Trips};
 
 // The column whose start is word i and whose count is the next.
@@ -123,6 +123,16 @@ pub extern "C" fn zebumorn_trip_shape_dist_affine(
     ensures b_after { b.new ≡ scale_or (trip_affine bytes.now words.now reals.now dists.now (course_of words.now) trip) b.old }
 {
     let c = course(words);
-    let answer = trip_samples::trip_shape_dist_affine(bytes, words, reals, dists, c, trip);
+    let answer = trip_samples::trip_shape_dist_affine(
+        &Lent {
+            bytes,
+            words,
+            times: &[],
+            reals,
+            dists,
+        },
+        c,
+        trip,
+    );
     oracle_line::write_affine(answer, a, b)
 }

@@ -15,7 +15,6 @@ use Rattle.routes.specs.Route.{route_of, along_of}
 use Rattle.polylines.specs.Polyline.{spot_along}
 use Rattle.stop_routes.specs.Routed.{route_between}
 use Rattle.stop_routes.specs.declared.between.Routed.{Routed}
-use Rattle.stop_routes.specs.declared.between.Routed.TheVariants.{Over as Routed·over, Nothing as Routed·nothing}
 use Rattle.paths.specs.declared.path.Path.{Path}
 use Rattle.paths.specs.declared.path.Path.TheVariants.{ByDistance, Polyline, Chain, Straight}
 use Rattle.paths.specs.declared.path.Line.{Line}
@@ -38,9 +37,9 @@ over_span (Some span) other = ByDistance span
 over_span None other = other
 
 -- along the route, if there is one
-abbrev pub over_route : Routed → Path → Path
-over_route (Routed·over route way) other = Polyline route way
-over_route Routed·nothing other = other
+abbrev pub over_route : Option Routed → Path → Path
+over_route (Some r) other = Polyline r.route r.way
+over_route None other = other
 
 -- along the stops between
 abbrev pub over_chain : List Point → Path

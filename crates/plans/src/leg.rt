@@ -5,6 +5,7 @@ ghost use Rattle.leg_paths.specs.Leg.{leg_count};
 ghost use Rattle.plans.specs.Plan.{course_of, leg_between};
 
 use courses::Course;
+use ids::Lent;
 use leg_paths::path_of;
 use legs::Walked;
 use paths::End;
@@ -31,10 +32,7 @@ pub(crate) fn course(t: Tables) -> Course
 
 // Walked to a fraction of it. Legs are counted from 1.
 pub(crate) fn walk_leg(
-    bytes: &[u8],
-    words: &[u32],
-    reals: &[f64],
-    dists: &[f32],
+    lent: &Lent,
     t: Tables,
     leg: u32,
     trip: Option<usize>,
@@ -42,10 +40,10 @@ pub(crate) fn walk_leg(
     to: End,
     frac: f64,
 ) -> Walked
-    requires { leg_count words.now (course_of t) trip ≤ 1000000 }
-    ensures { result ≡ walk_leg leg (leg_between bytes.now words.now reals.now dists.now t trip from to) frac }
+    requires { leg_count lent.now.words.now (course_of t) trip ≤ 1000000 }
+    ensures { result ≡ walk_leg leg (leg_between lent.now.bytes.now lent.now.words.now lent.now.reals.now lent.now.dists.now t trip from to) frac }
 {
     let c = course(t);
-    let path = path_of(bytes, words, reals, dists, c, trip, from, to);
-    walk(bytes, words, reals, c, leg, trip, from, to, path, frac)
+    let path = path_of(lent, c, trip, from, to);
+    walk(lent, c, leg, trip, from, to, path, frac)
 }

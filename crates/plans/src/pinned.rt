@@ -7,12 +7,12 @@ ghost use Rattle.voyages.specs.Outcome.{at_pin};
 
 use best_rows::best_row;
 use calls::{Reported, update_stop};
-use ids::cell;
+use ids::{Lent, cell};
 use paths::Status;
 use stop_rows::Lookup;
 use tables::Tables;
 use trip_rows::stop_point;
-use voyages::{Outcome, at_stop};
+use voyages::{Placed, at_stop};
 
 // What is reported of the sailing, and the tables that its stops are looked up in.
 pub fn reported(t: Tables) -> Reported
@@ -40,37 +40,31 @@ pub fn reported(t: Tables) -> Reported
 }
 
 // At the stop of a row of the updates, if it is found.
-fn at_row(words: &[u32], reals: &[f64], t: Tables, row: usize, stop: Option<usize>) -> Outcome
-    ensures { result ≡ at_pin (pin_of words.now reals.now t row stop) }
+fn at_row(lent: &Lent, t: Tables, row: usize, stop: Option<usize>) -> Option<Placed>
+    ensures { result ≡ at_pin (pin_of lent.now.words.now lent.now.reals.now t row stop) }
 {
     let Some(stop) = stop else {
-        return Outcome::Silence;
+        return None;
     };
     let s = t.stops;
     let sequences = t.updates.sequence;
-    at_stop(
+    Some(at_stop(
         1,
-        stop_point(reals, s, stop),
+        stop_point(lent.reals, s, stop),
         Status::InTransitTo,
         stop,
-        cell(words, sequences, row),
-    )
+        cell(lent.words, sequences, row),
+    ))
 }
 
-// At the best stop's.
-pub fn pin(bytes: &[u8], words: &[u32], reals: &[f64], t: Tables) -> Outcome
-    requires { Ready bytes.now words.now (reported_of t) }
-    ensures { result ≡ at_pin (pin_at bytes.now words.now reals.now t (best_row bytes.now t.updates words.now)) }
+// At the best stop's, if there is one and it can be placed.
+pub fn pin(lent: &Lent, t: Tables) -> Option<Placed>
+    requires { Ready lent.now.bytes.now lent.now.words.now (reported_of t) }
+    ensures { result ≡ at_pin (pin_at lent.now.bytes.now lent.now.words.now lent.now.reals.now t (best_row lent.now.bytes.now t.updates lent.now.words.now)) }
 {
     let updates = t.updates;
-    let Some(row) = best_row(bytes, words, updates) else {
-        return Outcome::Silence;
+    let Some(row) = best_row(lent, updates) else {
+        return None;
     };
-    at_row(
-        words,
-        reals,
-        t,
-        row,
-        update_stop(bytes, words, reported(t), row),
-    )
+    at_row(lent, t, row, update_stop(lent, reported(t), row))
 }

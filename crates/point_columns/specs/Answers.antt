@@ -1,16 +1,9 @@
 -- What an operation that draws points answers, and its two columns afterwards. Definitions only.
 use Rattle.std.specs.Prelude.{ℕ, cond, List, eqb, Float, length}
 use Rattle.lengths.specs.declared.line.Point.{Point}
-use Rattle.refusals.specs.Answer.{Answer, refused, given}
+use Rattle.refusals.specs.Answer.{Answer}
 use Rattle.answers.specs.Answers.{unless_refused, or_short, unless_kept}
 use Rattle.point_columns.specs.Drawn.{lats_of, lons_of}
-use Rattle.point_columns.specs.declared.point.Drawing.{Drawing}
-use Rattle.point_columns.specs.declared.point.Drawing.TheVariants.{Points, Refused}
-
--- the number and the value of each case
-abbrev pub drawing_answer : Drawing → Answer ℕ
-drawing_answer (Points n) = given n
-drawing_answer (Refused n) = refused n
 
 -- the first refusal that applies, or 0, where n is the first of those of the tables: 1 for columns of unequal length, and last 9, for columns of fewer rows than points
 unfoldable pub drawing_refusal : ℕ → List Point → List Float → List Float → ℕ

@@ -3,7 +3,7 @@
 #![tactic(auto)]
 
 mod column; // column.rt: rows of one column
-mod point; // point.rt: a point in both columns, and what is answered
+mod point; // point.rt: a point in both columns
 
 pub use column::put_rows;
-pub use point::{Drawing, later, put};
+pub use point::{Sheet, later};

@@ -1,17 +1,34 @@
-// A point in both columns, and what is answered.
+// A point in both columns.
 ghost use Rattle.std.specs.Prelude.{◌≡◌, ◌<◌};
+ghost use Rattle.point_columns.specs.Columns.{SameColumns};
 ghost use Rattle.point_columns.specs.Drawn.{later_of, row_after, lat_put, lon_put};
 
 use crate::column::put_row;
 use lengths::Point;
 
-// What an operation that draws answers.
-#[derive(Clone, Copy)]
-pub enum Drawing {
-    // how many points are written
-    Points(usize),
-    // the number of the refusal
-    Refused(u32),
+// The two lent columns that points are drawn in.
+#[derive(Drop)]
+pub struct Sheet<'a> {
+    pub lat: &'a mut [f64],
+    pub lon: &'a mut [f64],
+}
+
+impl Sheet<'_> {
+    // Writes a point, if there is one, to row k, as far as the columns have it. Answers the row of the next.
+    pub fn put(&mut self, k: usize, drawn: Option<Point>) -> usize
+        requires { k < 18446744073709551615 }
+        ensures value { result ≡ row_after drawn k }
+        ensures lat_after { self.new.lat.now ≡ lat_put self.old.lat.now k drawn }
+        ensures lon_after { self.new.lon.now ≡ lon_put self.old.lon.now k drawn }
+        ensures same { SameColumns self.old self.new }
+    {
+        let Some(p) = drawn else {
+            return k;
+        };
+        put_row(self.lat, k, p.lat);
+        put_row(self.lon, k, p.lon);
+        k + 1
+    }
 }
 
 // The last point drawn, with one more if there is one.
@@ -22,19 +39,4 @@ pub fn later(last: Option<Point>, drawn: Option<Point>) -> Option<Point>
         Some(_) => drawn,
         None => last,
     }
-}
-
-// Writes a point, if there is one, to row k, as far as the columns have it. Answers the row of the next.
-pub fn put(lat: &mut [f64], lon: &mut [f64], k: usize, drawn: Option<Point>) -> usize
-    requires { k < 18446744073709551615 }
-    ensures value { result ≡ row_after drawn k }
-    ensures lat_after { lat.new ≡ lat_put lat.old k drawn }
-    ensures lon_after { lon.new ≡ lon_put lon.old k drawn }
-{
-    let Some(p) = drawn else {
-        return k;
-    };
-    put_row(lat, k, p.lat);
-    put_row(lon, k, p.lon);
-    k + 1
 }

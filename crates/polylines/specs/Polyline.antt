@@ -10,7 +10,6 @@ use Rattle.ways.specs.declared.way.Way.{Way}
 use Rattle.routes.specs.declared.route.Route.{Route}
 use Rattle.stop_routes.specs.Routed.{route_between}
 use Rattle.stop_routes.specs.declared.between.Routed.{Routed}
-use Rattle.stop_routes.specs.declared.between.Routed.TheVariants.{Over, Nothing as NoRoute}
 use Rattle.routes.specs.Route.{along_of}
 
 -- where a route is at a fraction of it in sailing direction
@@ -18,9 +17,9 @@ unfoldable pub spot_along : List Point → Route → Way → Float → Spot
 spot_along line route way frac = along_of line route (clamp01_of (turned_of way frac))
 
 -- the position there
-abbrev pub drawn_along : List Point → Routed → Float → Option Drawn
-drawn_along line (Over route way) frac = Some (draw_of line route.part (spot_along line route way frac))
-drawn_along line NoRoute frac = None
+abbrev pub drawn_along : List Point → Option Routed → Float → Option Drawn
+drawn_along line (Some r) frac = Some (draw_of line r.route.part (spot_along line r.route r.way frac))
+drawn_along line None frac = None
 
 unfoldable pub polyline_of : List Point → Point → Point → Float → Option Drawn
 polyline_of line prev next frac = drawn_along line (route_between line prev next) frac

@@ -4,13 +4,12 @@ ghost use Rattle.std.specs.Prelude.{◌≡◌};
 ghost use Rattle.previous.specs.Before.{limit_row, prev_row};
 
 use crate::search::{first_from, first_target, last_placed};
-use ids::cell;
+use ids::{Lent, cell};
 use tables::{StopTimes, Stops, Trips};
 
 // The row that the stop before is looked for before: the call's, or else the first from its sequence on, or else the end of the trip's.
 fn limit_row(
-    bytes: &[u8],
-    words: &[u32],
+    lent: &Lent,
     times: StopTimes,
     stops: Stops,
     sequence: u32,
@@ -18,13 +17,13 @@ fn limit_row(
     from: u32,
     n: u32,
 ) -> usize
-    ensures { result ≡ limit_row bytes.now words.now times stops sequence stop from n }
+    ensures { result ≡ limit_row lent.now.bytes.now lent.now.words.now times stops sequence stop from n }
 {
-    let target = first_target(bytes, words, times, stops, sequence, stop, from, n);
+    let target = first_target(lent, times, stops, sequence, stop, from, n);
     if let Some(row) = target {
         return row;
     }
-    let later = first_from(words, times, sequence, from, n);
+    let later = first_from(lent.words, times, sequence, from, n);
     if let Some(row) = later {
         return row;
     }
@@ -33,8 +32,7 @@ fn limit_row(
 
 // The last positioned row of the trip before the call at the stop with the sequence.
 pub fn previous_row(
-    bytes: &[u8],
-    words: &[u32],
+    lent: &Lent,
     trips: Trips,
     times: StopTimes,
     stops: Stops,
@@ -42,15 +40,15 @@ pub fn previous_row(
     sequence: u32,
     stop: usize,
 ) -> Option<usize>
-    ensures { result ≡ prev_row bytes.now words.now trips times stops trip sequence stop }
+    ensures { result ≡ prev_row lent.now.bytes.now lent.now.words.now trips times stops trip sequence stop }
 {
     let Some(trip) = trip else {
         return None;
     };
     let firsts = trips.first;
     let counts = trips.count;
-    let from = cell(words, firsts, trip);
-    let n = cell(words, counts, trip);
-    let end = limit_row(bytes, words, times, stops, sequence, stop, from, n);
-    last_placed(bytes, words, times, stops, from, end)
+    let from = cell(lent.words, firsts, trip);
+    let n = cell(lent.words, counts, trip);
+    let end = limit_row(lent, times, stops, sequence, stop, from, n);
+    last_placed(lent, times, stops, from, end)
 }

@@ -2,14 +2,14 @@
 ghost use Rattle.std.specs.Prelude.{◌≡◌, ◌-◌};
 ghost use Rattle.row_tests.specs.Rows.{first_row, last_row, is_placed, placed_target, is_from};
 
+use ids::Lent;
 use row_tests::{from_sequence, placed, placed_target};
 use tables::{StopTimes, Stops};
 
 // The first of n rows that is the call, and positioned.
 #[tactic(auto, using(ids::proofs::Search::first_miss))]
 pub fn first_target(
-    bytes: &[u8],
-    words: &[u32],
+    lent: &Lent,
     times: StopTimes,
     stops: Stops,
     sequence: u32,
@@ -17,11 +17,11 @@ pub fn first_target(
     from: u32,
     n: u32,
 ) -> Option<usize>
-    ensures { result ≡ first_row (placed_target bytes.now words.now times stops sequence stop) from n }
+    ensures { result ≡ first_row (placed_target lent.now.bytes.now lent.now.words.now times stops sequence stop) from n }
 {
     for k in 0..n as usize {
         let row = from as usize + k;
-        if placed_target(bytes, words, times, stops, sequence, stop, row) {
+        if placed_target(lent, times, stops, sequence, stop, row) {
             return Some(row);
         }
     }
@@ -51,17 +51,16 @@ pub fn first_from(
 // The last positioned row before `end`.
 #[tactic(auto, using(row_tests::proofs::Rows::row_hit, row_tests::proofs::Rows::row_skip, row_tests::proofs::Rows::row_miss))]
 pub fn last_placed(
-    bytes: &[u8],
-    words: &[u32],
+    lent: &Lent,
     times: StopTimes,
     stops: Stops,
     from: u32,
     end: usize,
 ) -> Option<usize>
-    ensures { result ≡ last_row (is_placed bytes.now words.now times stops) from (end - from) }
+    ensures { result ≡ last_row (is_placed lent.now.bytes.now lent.now.words.now times stops) from (end - from) }
 {
     for row in (from as usize..end).rev() {
-        if placed(bytes, words, times, stops, row) {
+        if placed(lent, times, stops, row) {
             return Some(row);
         }
     }

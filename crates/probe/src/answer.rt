@@ -7,14 +7,7 @@ use std::io;
 
 // The place beside the estimate of the case that the pools hold.
 fn place(out: &impl Print, err: &impl Print, pools: &Pools) -> io::Result<()> {
-    let answer = estimate(
-        pools.bytes,
-        pools.words,
-        pools.times,
-        pools.reals,
-        pools.dists,
-        case_tables::tables(pools.held),
-    );
+    let answer = estimate(&pools.lent(), case_tables::tables(pools.held));
     estimate_words::print_place(out, err, answer)
 }
 
@@ -22,18 +15,7 @@ fn place(out: &impl Print, err: &impl Print, pools: &Pools) -> io::Result<()> {
 fn answer(out: &impl Print, err: &impl Print, s: &[u8], pools: &mut Pools) -> io::Result<()> {
     match case_queries::query_of(s) {
         Some(Query::Place) => place(out, err, pools),
-        Some(query) => probe_answers::answer(
-            out,
-            err,
-            s,
-            pools.bytes,
-            pools.words,
-            pools.times,
-            pools.reals,
-            pools.dists,
-            pools.held,
-            query,
-        ),
+        Some(query) => probe_answers::answer(out, err, s, pools, query),
         None => Ok(()),
     }
 }
@@ -45,7 +27,7 @@ pub(crate) fn answer_all(
     queries: &[u8],
     pools: &mut Pools,
 ) -> io::Result<()> {
-    asked::plain_ids(pools.bytes, pools.words);
+    asked::plain_ids(pools);
     let text = ids::part(queries, 0, pools.held.query_bytes);
     for line in text.split_inclusive(|b| *b == b'\n') {
         answer(out, err, line.strip_suffix(b"\n").unwrap_or(line), pools)?;

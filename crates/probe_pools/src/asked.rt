@@ -1,7 +1,6 @@
 // Where what is asked stands in the pools, after the case's columns.
-use case_tables::{IdPlace, layout, limits, put};
+use case_tables::{IdPlace, Pools, layout, limits, put};
 use ids::IdColumn;
-use tables::{IdRows, StopTimes, Stops, Tables, Trips};
 
 // The words: a column of plain ids, as long as the stops, which stands for ids that a query is not lent; then the length of the journey's key, a service's
 // feed and id and its date, the row of the trip asked of, and its id.
@@ -58,34 +57,23 @@ pub const SAMPLE_DIST: u32 = layout::DISTS;
 pub const PAIR: u32 = SAMPLE_DIST + limits::CALLS;
 
 // Fills the column of plain ids.
-pub fn plain_ids(bytes: &mut [u8], words: &mut [u32]) {
-    put(bytes, PLAIN_BYTE, 0, b'x');
+pub fn plain_ids(pools: &mut Pools) {
+    put(pools.bytes, PLAIN_BYTE, 0, b'x');
     for k in 0..limits::STOPS {
-        put(words, PLAIN.at, k, PLAIN_BYTE);
-        put(words, PLAIN.lengths(), k, 1);
+        put(pools.words, PLAIN.at, k, PLAIN_BYTE);
+        put(pools.words, PLAIN.lengths(), k, 1);
     }
 }
 
 // Puts an id of a query where it is asked of.
-pub fn put_id(bytes: &mut [u8], words: &mut [u32], place: u32, column: IdPlace, s: &[u8]) {
-    if let Some(n) = case_ids::put_id(bytes, place as usize, limits::ID as usize, s) {
-        put(words, column.at, 0, place);
-        put(words, column.lengths(), 0, n as u32);
+pub fn put_id(pools: &mut Pools, place: u32, column: IdPlace, s: &[u8]) {
+    if let Some(n) = case_ids::put_id(pools.bytes, place as usize, limits::ID as usize, s) {
+        put(pools.words, column.at, 0, place);
+        put(pools.words, column.lengths(), 0, n as u32);
     }
 }
 
 // So many plain ids.
 pub fn plain(n: u32) -> IdColumn {
     PLAIN.column(n)
-}
-
-// The tables with other stops, trips, trip ids and stop times.
-pub fn relent(t: Tables, stops: Stops, trips: Trips, tripkeys: IdRows, times: StopTimes) -> Tables {
-    Tables {
-        stops,
-        trips,
-        tripkeys,
-        times,
-        ..t
-    }
 }

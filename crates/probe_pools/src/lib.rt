@@ -1,5 +1,4 @@
-// What the probe adds to the pools of a case (docs/CASES.md), and how it writes numbers. As programs, its functions are proved safe and ending.
+// What the probe adds to the pools of a case (docs/CASES.md). As programs, its functions are proved safe and ending.
 #![tactic(auto)]
 
 pub mod asked; // asked.rt: where what is asked stands in the pools, after the case's columns
-pub mod write; // write.rt: numbers and texts of answers

@@ -1,93 +1,36 @@
 // Places along a shape, units, and a trip's calibration.
-use case_tables::{Case, layout, put, span};
+use crate::held::{first_row, is_set, row_count, word};
+use case_tables::{Pools, layout, put, span};
+use float_bits::bits_of_f64;
 use ids::Span;
-use line_answers::{Calibration, Interpolation, Snapped};
 use line_questions::Question;
-use probe_pools::{asked, write};
+use probe_pools::asked;
+use refusals::Refusal;
 use std::io;
+use stretches::Drawn;
 use tables::{Along, Points, Samples};
+use unit_scales::Affine;
 
-fn no_points() -> Points {
-    Points {
-        lat: span(0, 0),
-        lon: span(0, 0),
-    }
-}
+const NO_ROWS: Span = Span { at: 0, n: 0 };
 
-// Points of all shapes, counted from the first.
-fn part(points: Span) -> Points {
-    Points {
-        lat: span(
-            std::num::wrapping_add_u32(layout::POINT_LAT, points.at),
-            points.n,
-        ),
-        lon: span(
-            std::num::wrapping_add_u32(layout::POINT_LON, points.at),
-            points.n,
-        ),
-    }
-}
-
-// The points of a shape.
-fn line_of(words: &[u32], c: Case, shape: u32) -> Points {
-    let t = case_tables::tables(c);
-    let shapes = t.shapes;
-    part(trip_rows::shape_span(words, shapes, shape as usize))
-}
+const NO_POINTS: Points = Points {
+    lat: NO_ROWS,
+    lon: NO_ROWS,
+};
 
 // (snap X)
-pub fn snap(
-    out: &impl Print,
-    err: &impl Print,
-    bytes: &[u8],
-    words: &[u32],
-    times: &[i64],
-    reals: &mut [f64],
-    dists: &[f32],
-    x: f64,
-) -> io::Result<()> {
-    put(reals, asked::NUMBER, 0, x);
-    let lent = Samples {
-        line: no_points(),
-        at: no_points(),
-        dist: span(0, 0),
+pub fn snap(out: &impl Print, err: &impl Print, pools: &mut Pools, x: f64) -> io::Result<()> {
+    put(pools.reals, asked::NUMBER, 0, x);
+    let ratio = Samples {
+        line: NO_POINTS,
+        at: NO_POINTS,
+        dist: NO_ROWS,
         numbers: span(asked::NUMBER, 1),
     };
-    match calibrate::snap_unit_scale(bytes, words, times, reals, dists, lent) {
-        Snapped::Scale(scale) => write::double_line(out, scale),
-        Snapped::Nothing => case_answers::print_none(out),
-        Snapped::Refused(number) => case_answers::print_refusal(out, err, number),
-    }
-}
-
-fn print_place(out: &impl Print, err: &impl Print, answer: Interpolation) -> io::Result<()> {
-    match answer {
-        Interpolation::At(at) => {
-            write::text(out, b"(point ")?;
-            write::double(out, at.lat)?;
-            write::text(out, b" ")?;
-            write::double(out, at.lon)?;
-            write::text(out, b" ")?;
-            write::double(out, at.bearing)?;
-            write::text(out, b")\n")
-        }
-        Interpolation::Nothing => case_answers::print_none(out),
-        Interpolation::Refused(number) => case_answers::print_refusal(out, err, number),
-    }
-}
-
-fn put_along(reals: &mut [f64], dists: &mut [f32], from: f32, to: f32, fraction: f64) {
-    put(reals, asked::NUMBER, 0, fraction);
-    put(dists, asked::PAIR, 0, from);
-    put(dists, asked::PAIR, 1, to);
-}
-
-fn along_lent(line: Points) -> Along {
-    Along {
-        line,
-        ends: no_points(),
-        dists: span(asked::PAIR, 2),
-        numbers: span(asked::NUMBER, 1),
+    match calibrate::snap_unit_scale(&pools.lent(), ratio) {
+        Ok(Some(scale)) => println!(out; "{:016x}", bits_of_f64(scale)),
+        Ok(None) => case_answers::print_none(out),
+        Err(refusal) => case_answers::print_refusal(out, err, refusal.number()),
     }
 }
 
@@ -95,168 +38,136 @@ fn along_lent(line: Points) -> Along {
 pub fn place_along(
     out: &impl Print,
     err: &impl Print,
-    bytes: &[u8],
-    words: &[u32],
-    times: &[i64],
-    reals: &mut [f64],
-    dists: &mut [f32],
-    c: Case,
+    pools: &mut Pools,
     shape: u32,
     from: f32,
     to: f32,
     fraction: f64,
 ) -> io::Result<()> {
-    if c.shapes <= shape {
-        return case_answers::print_refusal(out, err, 5);
+    match place(pools, shape, from, to, fraction) {
+        Ok(Some(at)) => {
+            let lat = bits_of_f64(at.lat);
+            let lon = bits_of_f64(at.lon);
+            let bearing = bits_of_f64(at.bearing);
+            println!(out; "(point {lat:016x} {lon:016x} {bearing:016x})")
+        }
+        Ok(None) => case_answers::print_none(out),
+        Err(refusal) => case_answers::print_refusal(out, err, refusal.number()),
     }
-    put_along(reals, dists, from, to, fraction);
-    let lent = along_lent(line_of(words, c, shape));
-    print_place(
-        out,
-        err,
-        interpolate::interpolate(
-            bytes,
-            words,
-            times,
-            reals,
-            dists,
-            Question::ByDistance,
-            lent,
-        ),
-    )
 }
 
-// Whether a row of the stop times has a distance and its stop, of so many, a position.
-fn is_sample(bytes: &[u8], words: &[u32], stops: u32, row: usize) -> bool {
-    if columns::bit(bytes, span(layout::CALL_MEASURED, 0), row) == 0 {
-        return false;
+// The place at a fraction of the way between two distances on a shape of the case.
+fn place(
+    pools: &mut Pools,
+    shape: u32,
+    from: f32,
+    to: f32,
+    fraction: f64,
+) -> Result<Option<Drawn>, Refusal> {
+    if pools.held.shapes <= shape {
+        return Err(Refusal::Index);
     }
-    let stop = ids::cell(words, span(layout::CALL_STOP, 0), row);
-    if stops <= stop {
-        return false;
-    }
-    columns::bit(bytes, span(layout::STOP_POSITIONED, 0), stop as usize) != 0
+    put(pools.reals, asked::NUMBER, 0, fraction);
+    put(pools.dists, asked::PAIR, 0, from);
+    put(pools.dists, asked::PAIR, 1, to);
+    let along = Along {
+        line: line_of(pools, shape),
+        ends: NO_POINTS,
+        dists: span(asked::PAIR, 2),
+        numbers: span(asked::NUMBER, 1),
+    };
+    interpolate::interpolate(&pools.lent(), Question::ByDistance, along)
 }
 
-fn dist_at(dists: &[f32], row: usize) -> f32 {
-    if row < dists.len() {
-        return dists[row];
+// The points of a shape. Its rows count from the first point of all shapes.
+fn line_of(pools: &Pools, shape: u32) -> Points {
+    let shapes = case_tables::tables(pools.held).shapes;
+    let rows = trip_rows::shape_span(pools.words, shapes, shape as usize);
+    Points {
+        lat: span(layout::POINT_LAT.wrapping_add(rows.at), rows.n),
+        lon: span(layout::POINT_LON.wrapping_add(rows.at), rows.n),
     }
-    0.0
 }
 
-// Puts position and distance of a row of the stop times after `found` samples, if it is one, and says how many there are then.
-fn put_sample(
-    bytes: &[u8],
-    words: &[u32],
-    reals: &mut [f64],
-    dists: &mut [f32],
-    stops: u32,
-    row: usize,
-    found: u32,
-) -> u32 {
-    if !is_sample(bytes, words, stops, row) {
-        return found;
+// (calibrate N)
+pub fn calibrate_trip(
+    out: &impl Print,
+    err: &impl Print,
+    pools: &mut Pools,
+    trip: u32,
+) -> io::Result<()> {
+    match calibration(pools, trip) {
+        Ok(Some(affine)) => {
+            let shift = bits_of_f64(affine.a);
+            let scale = bits_of_f64(affine.b);
+            println!(out; "(affine {shift:016x} {scale:016x})")
+        }
+        Ok(None) => case_answers::print_none(out),
+        Err(refusal) => case_answers::print_refusal(out, err, refusal.number()),
     }
-    let stop = ids::cell(words, span(layout::CALL_STOP, 0), row) as usize;
-    let lat = trip_rows::real(reals, span(layout::STOP_LAT, 0), stop);
-    let lon = trip_rows::real(reals, span(layout::STOP_LON, 0), stop);
-    put(reals, asked::SAMPLE_LAT, found, lat);
-    put(reals, asked::SAMPLE_LON, found, lon);
-    let d = dist_at(dists, row);
-    put(dists, asked::SAMPLE_DIST, found, d);
-    std::num::wrapping_add_u32(found, 1)
 }
 
-// Puts the samples of n rows from `first` on, and says how many there are.
-fn put_samples(
-    bytes: &[u8],
-    words: &[u32],
-    reals: &mut [f64],
-    dists: &mut [f32],
-    stops: u32,
-    first: u32,
-    n: u32,
-) -> u32 {
-    let mut found = 0;
-    let mut k = 0;
-    while k < n {
+// The calibration of a trip of the case by those of its rows that are samples.
+fn calibration(pools: &mut Pools, trip: u32) -> Result<Option<Affine>, Refusal> {
+    if pools.held.trips <= trip {
+        return Err(Refusal::Index);
+    }
+    let n = put_samples(pools, trip);
+    let samples = Samples {
+        line: trip_line(pools, trip),
+        at: Points {
+            lat: span(asked::SAMPLE_LAT, n),
+            lon: span(asked::SAMPLE_LON, n),
+        },
+        dist: span(asked::SAMPLE_DIST, n),
+        numbers: NO_ROWS,
+    };
+    calibrate::shape_dist_affine(&pools.lent(), samples)
+}
+
+// The points of a trip's shape, none where it has no shape or one past the table.
+fn trip_line(pools: &Pools, trip: u32) -> Points {
+    let shape = word(pools, layout::TRIP_SHAPE, trip as usize);
+    if is_set(pools, layout::TRIP_SHAPED, trip as usize) && shape < pools.held.shapes {
+        line_of(pools, shape)
+    } else {
+        NO_POINTS
+    }
+}
+
+// Puts a trip's samples where they are asked of, and says how many there are.
+fn put_samples(pools: &mut Pools, trip: u32) -> u32 {
+    let first = first_row(pools, trip);
+    let mut found: u32 = 0;
+    for k in 0..row_count(pools, trip) {
         let row = first as usize + k as usize;
-        found = put_sample(bytes, words, reals, dists, stops, row, found);
-        k += 1;
+        if let Some(stop) = sampled_stop(pools, row) {
+            put_sample(pools, found, row, stop);
+            found = found.wrapping_add(1);
+        }
     }
     found
 }
 
-// Whether a trip has a shape, of so many.
-fn is_shaped(bytes: &[u8], words: &[u32], shapes: u32, trip: u32) -> bool {
-    if columns::bit(bytes, span(layout::TRIP_SHAPED, 0), trip as usize) == 0 {
-        return false;
+// The stop of a row of the stop times that is a sample: it has a distance, and its stop a position.
+fn sampled_stop(pools: &Pools, row: usize) -> Option<usize> {
+    if !is_set(pools, layout::CALL_MEASURED, row) {
+        return None;
     }
-    ids::cell(words, span(layout::TRIP_SHAPE, 0), trip as usize) < shapes
-}
-
-// The points of a trip's shape, if it has one.
-fn trip_line(bytes: &[u8], words: &[u32], c: Case, trip: u32) -> Points {
-    if is_shaped(bytes, words, c.shapes, trip) {
-        return line_of(
-            words,
-            c,
-            ids::cell(words, span(layout::TRIP_SHAPE, 0), trip as usize),
-        );
-    }
-    no_points()
-}
-
-fn print_calibration(out: &impl Print, err: &impl Print, answer: Calibration) -> io::Result<()> {
-    match answer {
-        Calibration::By(affine) => {
-            write::text(out, b"(affine ")?;
-            write::double(out, affine.a)?;
-            write::text(out, b" ")?;
-            write::double(out, affine.b)?;
-            write::text(out, b")\n")
-        }
-        Calibration::Nothing => case_answers::print_none(out),
-        Calibration::Refused(number) => case_answers::print_refusal(out, err, number),
+    let stop = word(pools, layout::CALL_STOP, row);
+    if stop < pools.held.stops && is_set(pools, layout::STOP_POSITIONED, stop as usize) {
+        Some(stop as usize)
+    } else {
+        None
     }
 }
 
-fn samples_lent(line: Points, n: u32) -> Samples {
-    let at = Points {
-        lat: span(asked::SAMPLE_LAT, n),
-        lon: span(asked::SAMPLE_LON, n),
-    };
-    Samples {
-        line,
-        at,
-        dist: span(asked::SAMPLE_DIST, n),
-        numbers: span(0, 0),
-    }
-}
-
-// (calibrate N): the distances stand at the beginning of their pool.
-pub fn calibrate_trip(
-    out: &impl Print,
-    err: &impl Print,
-    bytes: &[u8],
-    words: &[u32],
-    times: &[i64],
-    reals: &mut [f64],
-    dists: &mut [f32],
-    c: Case,
-    trip: u32,
-) -> io::Result<()> {
-    if c.trips <= trip {
-        return case_answers::print_refusal(out, err, 5);
-    }
-    let first = ids::cell(words, span(layout::TRIP_FIRST, 0), trip as usize);
-    let rows = ids::cell(words, span(layout::TRIP_COUNT, 0), trip as usize);
-    let n = put_samples(bytes, words, reals, dists, c.stops, first, rows);
-    let lent = samples_lent(trip_line(bytes, words, c, trip), n);
-    print_calibration(
-        out,
-        err,
-        calibrate::shape_dist_affine(bytes, words, times, reals, dists, lent),
-    )
+// Puts the position of a stop and the distance of a row of the stop times as a sample.
+fn put_sample(pools: &mut Pools, sample: u32, row: usize, stop: usize) {
+    let lat = trip_rows::real(pools.reals, span(layout::STOP_LAT, 0), stop);
+    let lon = trip_rows::real(pools.reals, span(layout::STOP_LON, 0), stop);
+    let dist = trip_rows::row_or(pools.dists, span(layout::CALL_DIST, 0), row, 0.0);
+    put(pools.reals, asked::SAMPLE_LAT, sample, lat);
+    put(pools.reals, asked::SAMPLE_LON, sample, lon);
+    put(pools.dists, asked::SAMPLE_DIST, sample, dist);
 }

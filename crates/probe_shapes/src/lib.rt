@@ -3,7 +3,9 @@
 
 mod along; // along.rt: places along a shape, units, calibration
 mod filled; // filled.rt: the distances of a trip after backfill
+mod held; // held.rt: what a case holds in a row of a column
 mod leg; // leg.rt: the points of a leg
+mod lent; // lent.rt: the tables that geometry is lent
 mod stops; // stops.rt: the vertices of a trip's stops
 
 pub use along::{calibrate_trip, place_along, snap};

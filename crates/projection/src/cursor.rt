@@ -4,7 +4,7 @@ ghost use Rattle.std.specs.Prelude.{◌≡◌};
 ghost use Rattle.lengths.specs.Line.{line_of};
 ghost use Rattle.projection.specs.Projection.{at_start, step_of, passed_of};
 
-use lengths::Point;
+use lengths::{Point, Polyline};
 use near_vertex::forward_shape_index;
 
 #[derive(Clone, Copy)]
@@ -35,10 +35,10 @@ impl Cursor {
     }
 
     // Takes a stop at a point.
-    pub fn step(self, lat: &[f64], lon: &[f64], stop: Point) -> Step
-        ensures { result ≡ step_of (line_of lat.now lon.now) self stop }
+    pub fn step(self, line: Polyline, stop: Point) -> Step
+        ensures { result ≡ step_of (line_of line.entry.lat.now line.entry.lon.now) self stop }
     {
-        let vertex = forward_shape_index(lat, lon, self.at, stop);
+        let vertex = forward_shape_index(line, self.at, stop);
         Step {
             cursor: Cursor { at: vertex },
             vertex,
@@ -46,12 +46,12 @@ impl Cursor {
     }
 
     // Takes any stop: one without a position gets no vertex and does not move the cursor.
-    pub fn pass(self, lat: &[f64], lon: &[f64], stop: Option<Point>) -> Passed
-        ensures { result ≡ passed_of (line_of lat.now lon.now) self stop }
+    pub fn pass(self, line: Polyline, stop: Option<Point>) -> Passed
+        ensures { result ≡ passed_of (line_of line.entry.lat.now line.entry.lon.now) self stop }
     {
         match stop {
             Some(point) => {
-                let step = self.step(lat, lon, point);
+                let step = self.step(line, point);
                 let cursor = step.cursor;
                 Passed {
                     cursor,

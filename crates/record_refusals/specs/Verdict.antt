@@ -5,10 +5,10 @@ use Rattle.tables.specs.declared.bounds.Bounds.{Bounds}
 use Rattle.stop_rules.specs.Parts.{stops_causes}
 use Rattle.shape_rules.specs.Parts.{line_causes}
 use Rattle.record_faults.specs.declared.Faults.{Faults}
-use Rattle.record_refusals.specs.declared.Lent.{Lent}
+use Rattle.record_refusals.specs.declared.LentRecords.{LentRecords}
 
 -- the causes of what is lent beside the records: the stops, and the points of the trip's shape
-unfoldable pub lent_causes : Bounds → Lent → List Cause
+unfoldable pub lent_causes : Bounds → LentRecords → List Cause
 lent_causes b l = joined (stops_causes b l.stops ∷ line_causes b l.line ∷ [])
 
 -- the earlier of two refusals, of which 0 is none

@@ -3,11 +3,12 @@
 #![tactic(auto)]
 
 ghost use Rattle.std.specs.Prelude.{◌≡◌, []};
-ghost use Rattle.tables.specs.Pools.{pools};
+ghost use Rattle.tables.specs.Pools.{pools_of};
 ghost use Rattle.tables.specs.Bounds.{chart_bounds};
 ghost use Rattle.verdicts.specs.Refuse.{refusal_of};
 ghost use Rattle.record_refusals.specs.Verdict.{lent_causes, earlier, numbered, over_of, short_of, verdict_of};
 
+use ids::Lent;
 use record_faults::Faults;
 use refusals::number_or_zero;
 use tables::{Bounds, Points, Stops};
@@ -16,25 +17,18 @@ use verdicts::Verdict;
 // The stops, and the points of the trip's shape.
 #[repr(C)]
 #[derive(Clone, Copy)]
-pub struct Lent {
+pub struct LentRecords {
     pub stops: Stops,
     pub line: Points,
 }
 
 // The first refusal of what is lent beside the records, or 0.
-pub fn check_lent(bytes: &[u8], words: &[u32], reals: &[f64], l: Lent) -> u32
-    ensures { result ≡ refusal_of (pools bytes.now words.now [] reals.now []) (lent_causes chart_bounds l) }
+pub fn check_lent(lent: &Lent, l: LentRecords) -> u32
+    ensures { result ≡ refusal_of (pools_of lent.now) (lent_causes chart_bounds l) }
 {
-    let lent = tables::Lent {
-        bytes,
-        words,
-        times: &[],
-        reals,
-        dists: &[],
-    };
     let b = Bounds::chart();
-    let stops = stop_rules::stops(Verdict::new(), &lent, b, l.stops);
-    let line = shape_rules::points_within(stops, &lent, l.line, b.points);
+    let stops = stop_rules::stops(Verdict::new(), lent, b, l.stops);
+    let line = shape_rules::points_within(stops, lent, l.line, b.points);
     number_or_zero(&line.finish())
 }
 

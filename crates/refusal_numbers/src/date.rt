@@ -2,12 +2,14 @@
 ghost use Rattle.std.specs.Prelude.{◌≡◌};
 ghost use Rattle.days.specs.Read.{refusal_of};
 
-// 0 for a date, or the refusal's number.
+use refusals::Refusal;
+
+/// 0 for a date, or the refusal's number.
 pub fn told_date(read: Option<i64>) -> u32
     ensures { result ≡ refusal_of read }
 {
     match read {
         Some(_) => 0,
-        None => 10,
+        None => Refusal::Date.number(),
     }
 }

@@ -2,11 +2,9 @@
 #![tactic(auto)]
 
 mod date; // date.rt: a date
-mod drawing; // drawing.rt: the points of a leg or a journey
 mod service; // service.rt: whether a service runs
 mod trip; // trip.rt: the trip of a journey
 
 pub use date::told_date;
-pub use drawing::told_drawing;
 pub use service::told_running;
 pub use trip::told_trip;

@@ -4,7 +4,7 @@ ghost use Rattle.lengths.specs.Line.{line_of};
 ghost use Rattle.routes.specs.Route.{inside_of, along_of, along_vertices, route_of};
 
 use first_stretch::stretch_at;
-use lengths::vertices;
+use lengths::{Polyline, vertices};
 use line_parts::{Part, part_length, whole};
 use stretches::{Drawn, Spot, draw};
 
@@ -17,30 +17,30 @@ pub struct Route {
 
 // A part with its length.
 #[tactic(auto, unfolding(crate::specs::Route::route_of))]
-pub fn route_of(lat: &[f64], lon: &[f64], part: Part) -> Route
-    ensures { result ≡ route_of (line_of lat.now lon.now) part }
+pub fn route_of(line: Polyline, part: Part) -> Route
+    ensures { result ≡ route_of (line_of line.entry.lat.now line.entry.lon.now) part }
 {
     Route {
         part,
-        total: part_length(lat, lon, part),
+        total: part_length(line, part),
     }
 }
 
 // Where it is at a fraction between 0 and 1. Under a metre in all it is one straight stretch.
-fn inside(lat: &[f64], lon: &[f64], route: Route, f: f64) -> Spot
-    ensures { result ≡ inside_of (line_of lat.now lon.now) route f }
+fn inside(line: Polyline, route: Route, f: f64) -> Spot
+    ensures { result ≡ inside_of (line_of line.entry.lat.now line.entry.lon.now) route f }
 {
     if route.total < 1.0 {
         Spot::Straight(f)
     } else {
-        stretch_at(lat, lon, route.part, 0.000000001, route.total * f)
+        stretch_at(line, route.part, 0.000000001, route.total * f)
     }
 }
 
 // Where it is at any fraction, in the order of the vertices.
 #[tactic(auto, unfolding(crate::specs::Route::along_of))]
-pub fn along(lat: &[f64], lon: &[f64], route: Route, f: f64) -> Spot
-    ensures { result ≡ along_of (line_of lat.now lon.now) route f }
+pub fn along(line: Polyline, route: Route, f: f64) -> Spot
+    ensures { result ≡ along_of (line_of line.entry.lat.now line.entry.lon.now) route f }
 {
     let part = route.part;
     if part.last <= part.first || f <= 0.0 {
@@ -48,20 +48,20 @@ pub fn along(lat: &[f64], lon: &[f64], route: Route, f: f64) -> Spot
     } else if f >= 1.0 {
         Spot::NoStretch
     } else {
-        inside(lat, lon, route, f)
+        inside(line, route, f)
     }
 }
 
 // On a whole line, which has no place only where it has no vertex.
 #[tactic(auto, unfolding(crate::specs::Route::along_vertices))]
-pub fn interpolate_along_vertices(lat: &[f64], lon: &[f64], frac: f64) -> Option<Drawn>
-    ensures { result ≡ along_vertices (line_of lat.now lon.now) frac }
+pub fn interpolate_along_vertices(line: Polyline, frac: f64) -> Option<Drawn>
+    ensures { result ≡ along_vertices (line_of line.entry.lat.now line.entry.lon.now) frac }
 {
-    if vertices(lat, lon) == 0 {
+    if vertices(line) == 0 {
         return None;
     }
-    let part = whole(lat, lon);
-    let route = route_of(lat, lon, part);
-    let spot = along(lat, lon, route, frac);
-    Some(draw(lat, lon, part, spot))
+    let part = whole(line);
+    let route = route_of(line, part);
+    let spot = along(line, route, frac);
+    Some(draw(line, part, spot))
 }

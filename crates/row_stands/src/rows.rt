@@ -5,7 +5,7 @@ ghost use Rattle.row_stands.specs.declared.rows.Rows.TheVariants.{Ranges, Except
 
 use column_order::numbers;
 use columns::bit;
-use ids::{IdColumn, Span, cell, compare, id};
+use ids::{IdColumn, Lent, Span, cell, compare, id};
 use std::cmp::Ordering;
 
 // The columns that a row is found by.
@@ -21,28 +21,26 @@ pub enum Rows {
 
 // How row k's feed and service stand to those asked of.
 fn by_names(
-    bytes: &[u8],
-    words: &[u32],
+    lent: &Lent,
     feeds: IdColumn,
     services: IdColumn,
     k: usize,
     a: &[u8],
     b: &[u8],
 ) -> Ordering
-    ensures { result ≡ stand_of bytes.now words.now (Ranges feeds services) a.now b.now 0 0 k }
+    ensures { result ≡ stand_of lent.now.bytes.now lent.now.words.now (Ranges feeds services) a.now b.now 0 0 k }
 {
-    match compare(id(bytes, words, feeds, k), a) {
+    match compare(id(lent, feeds, k), a) {
         Ordering::Less => return Ordering::Less,
         Ordering::Equal => {}
         Ordering::Greater => return Ordering::Greater,
     }
-    compare(id(bytes, words, services, k), b)
+    compare(id(lent, services, k), b)
 }
 
 // The same, then how its date stands to the day, then its flag to the one asked of.
 fn by_day(
-    bytes: &[u8],
-    words: &[u32],
+    lent: &Lent,
     feeds: IdColumn,
     services: IdColumn,
     dates: Span,
@@ -53,27 +51,26 @@ fn by_day(
     day: u32,
     flag: u32,
 ) -> Ordering
-    ensures { result ≡ stand_of bytes.now words.now (Exceptions feeds services dates flags) a.now b.now day flag k }
+    ensures { result ≡ stand_of lent.now.bytes.now lent.now.words.now (Exceptions feeds services dates flags) a.now b.now day flag k }
 {
-    match by_names(bytes, words, feeds, services, k, a, b) {
+    match by_names(lent, feeds, services, k, a, b) {
         Ordering::Less => return Ordering::Less,
         Ordering::Equal => {}
         Ordering::Greater => return Ordering::Greater,
     }
-    let o = days::ordinal_of(cell(words, dates, k));
+    let o = days::ordinal_of(cell(lent.words, dates, k));
     if o < day as u64 {
         return Ordering::Less;
     }
     if (day as u64) < o {
         return Ordering::Greater;
     }
-    numbers(bit(bytes, flags, k), flag)
+    numbers(bit(lent.bytes, flags, k), flag)
 }
 
 // How row k stands to what is asked of.
 pub fn stands(
-    bytes: &[u8],
-    words: &[u32],
+    lent: &Lent,
     rows: Rows,
     k: usize,
     a: &[u8],
@@ -81,11 +78,11 @@ pub fn stands(
     day: u32,
     flag: u32,
 ) -> Ordering
-    ensures { result ≡ stand_of bytes.now words.now rows a.now b.now day flag k }
+    ensures { result ≡ stand_of lent.now.bytes.now lent.now.words.now rows a.now b.now day flag k }
 {
     match rows {
-        Rows::Ranges(f, s) => by_names(bytes, words, f, s, k, a, b),
-        Rows::Exceptions(f, s, d, m) => { by_day(bytes, words, f, s, d, m, k, a, b, day, flag) }
-        Rows::Lines(t) => compare(id(bytes, words, t, k), a),
+        Rows::Ranges(f, s) => by_names(lent, f, s, k, a, b),
+        Rows::Exceptions(f, s, d, m) => { by_day(lent, f, s, d, m, k, a, b, day, flag) }
+        Rows::Lines(t) => compare(id(lent, t, k), a),
     }
 }

@@ -3,30 +3,34 @@ ghost use Rattle.std.specs.Prelude.{◌≡◌};
 ghost use Rattle.row_tests.specs.Rows.{is_placed, is_named, is_target, placed_target, is_from, has_sequence};
 
 use courses::flagged;
-use ids::{cell, id};
+use ids::{Lent, cell, id};
 use tables::{StopTimes, Stops};
 use texts::{contains, same};
 
 // Whether the row's stop has a position.
-pub fn placed(bytes: &[u8], words: &[u32], times: StopTimes, stops: Stops, row: usize) -> bool
-    ensures { result ≡ is_placed bytes.now words.now times stops row }
+pub fn placed(lent: &Lent, times: StopTimes, stops: Stops, row: usize) -> bool
+    ensures { result ≡ is_placed lent.now.bytes.now lent.now.words.now times stops row }
 {
     let column = times.stop;
     let positioned = stops.positioned;
-    flagged(bytes, positioned, cell(words, column, row) as usize)
+    flagged(
+        lent.bytes,
+        positioned,
+        cell(lent.words, column, row) as usize,
+    )
 }
 
 // Whether the stop `at` has the stop's own id, or a raw id that stands in that id.
-fn named(bytes: &[u8], words: &[u32], stops: Stops, stop: usize, at: usize) -> bool
-    ensures { result ≡ is_named bytes.now words.now stops stop at }
+fn named(lent: &Lent, stops: Stops, stop: usize, at: usize) -> bool
+    ensures { result ≡ is_named lent.now.bytes.now lent.now.words.now stops stop at }
 {
     let own = stops.own;
     let raw = stops.raw;
-    let target = id(bytes, words, own, stop);
-    if same(id(bytes, words, own, at), target) {
+    let target = id(lent, own, stop);
+    if same(id(lent, own, at), target) {
         return true;
     }
-    let part = id(bytes, words, raw, at);
+    let part = id(lent, raw, at);
     if part.len() == 0 {
         return false;
     }
@@ -35,42 +39,40 @@ fn named(bytes: &[u8], words: &[u32], stops: Stops, stop: usize, at: usize) -> b
 
 // Whether the row is the call at the stop with the sequence: by its stop, its sequence or its stop's ids.
 fn is_target(
-    bytes: &[u8],
-    words: &[u32],
+    lent: &Lent,
     times: StopTimes,
     stops: Stops,
     sequence: u32,
     stop: usize,
     row: usize,
 ) -> bool
-    ensures { result ≡ is_target bytes.now words.now times stops sequence stop row }
+    ensures { result ≡ is_target lent.now.bytes.now lent.now.words.now times stops sequence stop row }
 {
     let column = times.stop;
     let sequences = times.sequence;
-    let at = cell(words, column, row) as usize;
+    let at = cell(lent.words, column, row) as usize;
     if at == stop {
         return true;
     }
-    if cell(words, sequences, row) == sequence {
+    if cell(lent.words, sequences, row) == sequence {
         return true;
     }
-    named(bytes, words, stops, stop, at)
+    named(lent, stops, stop, at)
 }
 
 // Whether it is that and its stop has a position.
 pub fn placed_target(
-    bytes: &[u8],
-    words: &[u32],
+    lent: &Lent,
     times: StopTimes,
     stops: Stops,
     sequence: u32,
     stop: usize,
     row: usize,
 ) -> bool
-    ensures { result ≡ placed_target bytes.now words.now times stops sequence stop row }
+    ensures { result ≡ placed_target lent.now.bytes.now lent.now.words.now times stops sequence stop row }
 {
-    if placed(bytes, words, times, stops, row) {
-        return is_target(bytes, words, times, stops, sequence, stop, row);
+    if placed(lent, times, stops, row) {
+        return is_target(lent, times, stops, sequence, stop, row);
     }
     false
 }

@@ -2,6 +2,7 @@
 ghost use Rattle.std.specs.Prelude.{◌≡◌};
 ghost use Rattle.sailing_rows.specs.Rows.{is_cancelled, clock_of, offset_of, route_of, base_key};
 
+use ids::Lent;
 use tables::Sailing;
 
 // Whether it is cancelled.
@@ -21,15 +22,15 @@ pub fn clock(times: &[i64], s: Sailing) -> u64
 }
 
 // The route, or an empty text where there is none.
-pub fn route<'a>(bytes: &'a [u8], words: &[u32], s: Sailing) -> &'a [u8]
-    ensures { result.now ≡ route_of bytes.now words.now s }
+pub fn route<'a>(lent: &Lent<'a>, s: Sailing) -> &'a [u8]
+    ensures { result.now ≡ route_of lent.now.bytes.now lent.now.words.now s }
 {
     let routed = s.routed;
     let routes = s.route;
-    if update_rows::is_set(bytes, routed, 0) {
-        return ids::id(bytes, words, routes, 0);
+    if update_rows::is_set(lent.bytes, routed, 0) {
+        return ids::id(lent, routes, 0);
     }
-    &bytes[..0]
+    &lent.bytes[..0]
 }
 
 // The offset of its local time.
@@ -41,9 +42,9 @@ pub fn offset(times: &[i64], s: Sailing) -> i64
 }
 
 // The key before its last '@'.
-pub fn base_key<'a>(bytes: &'a [u8], words: &[u32], s: Sailing) -> &'a [u8]
-    ensures { result.now ≡ base_key bytes.now words.now s }
+pub fn base_key<'a>(lent: &Lent<'a>, s: Sailing) -> &'a [u8]
+    ensures { result.now ≡ base_key lent.now.bytes.now lent.now.words.now s }
 {
     let keys = s.key;
-    key_parts::base(ids::id(bytes, words, keys, 0))
+    key_parts::base(ids::id(lent, keys, 0))
 }

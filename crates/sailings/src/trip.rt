@@ -10,6 +10,7 @@ ghost use Rattle.sailings.specs.Sailing.{InTime, local_at, trip_from, sailing_tr
 
 use crate::departure::{has_departure, local};
 use first_departures::first_departure;
+use ids::Lent;
 use lent_plans::plan_of;
 use matching::{Named, resolve};
 use moments::{today, yesterday};
@@ -17,31 +18,24 @@ use sailing_rows::{base_key, offset, route};
 use tables::Tables;
 
 // Of a sailing whose first departure is this.
-fn trip_from(
-    bytes: &[u8],
-    words: &[u32],
-    times: &[i64],
-    t: Tables,
-    first: Option<u64>,
-) -> Option<usize>
-    requires ready { Ready bytes.now words.now (named_of t) (plan_of t) }
+fn trip_from(lent: &Lent, t: Tables, first: Option<u64>) -> Option<usize>
+    requires ready { Ready lent.now.bytes.now lent.now.words.now (named_of t) (plan_of t) }
     requires in_time { InTime first }
-    requires in_reach { InReach (local_at first (offset_of times.now t.sailing)) }
-    ensures { result ≡ trip_from bytes.now words.now times.now t first }
+    requires in_reach { InReach (local_at first (offset_of lent.now.times.now t.sailing)) }
+    ensures { result ≡ trip_from lent.now.bytes.now lent.now.words.now lent.now.times.now t first }
 {
     let tripkeys = t.tripkeys;
     let aliases = t.aliases;
     let s = t.sailing;
     let n = Named { tripkeys, aliases };
     let p = plan_of(t);
-    let at = local(first, offset(times, s));
+    let at = local(first, offset(lent.times, s));
     resolve(
-        bytes,
-        words,
+        lent,
         n,
         p,
-        base_key(bytes, words, s),
-        route(bytes, words, s),
+        base_key(lent, s),
+        route(lent, s),
         has_departure(first),
         today(at),
         yesterday(at),
@@ -49,18 +43,12 @@ fn trip_from(
 }
 
 // The trip that it stands for: matched by its key, its route and its first departure.
-pub fn sailing_trip(bytes: &[u8], words: &[u32], times: &[i64], t: Tables) -> Option<usize>
-    requires ready { Ready bytes.now words.now (named_of t) (plan_of t) }
-    requires in_time { InTime (first_departure bytes.now t.updates times.now) }
-    requires in_reach { InReach (local_at (first_departure bytes.now t.updates times.now) (offset_of times.now t.sailing)) }
-    ensures { result ≡ sailing_trip bytes.now words.now times.now t }
+pub fn sailing_trip(lent: &Lent, t: Tables) -> Option<usize>
+    requires ready { Ready lent.now.bytes.now lent.now.words.now (named_of t) (plan_of t) }
+    requires in_time { InTime (first_departure lent.now.bytes.now t.updates lent.now.times.now) }
+    requires in_reach { InReach (local_at (first_departure lent.now.bytes.now t.updates lent.now.times.now) (offset_of lent.now.times.now t.sailing)) }
+    ensures { result ≡ sailing_trip lent.now.bytes.now lent.now.words.now lent.now.times.now t }
 {
     let updates = t.updates;
-    trip_from(
-        bytes,
-        words,
-        times,
-        t,
-        first_departure(bytes, times, updates),
-    )
+    trip_from(lent, t, first_departure(lent, updates))
 }

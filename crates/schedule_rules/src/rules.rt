@@ -6,8 +6,9 @@ ghost use Rattle.verdicts.specs.Verdict.{least};
 ghost use Rattle.schedule_rules.specs.Parts.{calls_causes, placing_causes, call_times_causes};
 
 use faults::Test;
+use ids::Lent;
 use refusals::Refusal;
-use tables::{Bounds, Lent, Mark, Pool, StopTimes, Trips};
+use tables::{Bounds, Mark, Pool, StopTimes, Trips};
 use verdicts::Verdict;
 
 // The stop times.

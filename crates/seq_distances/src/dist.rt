@@ -5,7 +5,7 @@ ghost use Rattle.courses.specs.Course.{row_after};
 ghost use Rattle.seq_distances.specs.Dist.{has_sequence, row_dist, seq_dist};
 
 use courses::{Course, flagged};
-use ids::{Span, cell};
+use ids::{Lent, Span, cell};
 use trip_rows::row_or;
 
 // The first row with a sequence, of n rows from `from` on.
@@ -23,36 +23,29 @@ fn seq_row(words: &[u32], column: Span, from: u32, n: u32, sequence: u32) -> Opt
 }
 
 // The distance of a row that is found, if it has one.
-fn row_dist(bytes: &[u8], dists: &[f32], c: Course, row: Option<usize>) -> Option<f32>
-    ensures { result ≡ row_dist bytes.now dists.now c row }
+fn row_dist(lent: &Lent, c: Course, row: Option<usize>) -> Option<f32>
+    ensures { result ≡ row_dist lent.now.bytes.now lent.now.dists.now c row }
 {
     let measured = c.times.measured;
     let column = c.times.dist;
     let Some(row) = row else {
         return None;
     };
-    if flagged(bytes, measured, row) {
-        return Some(row_or(dists, column, row, f32::NAN));
+    if flagged(lent.bytes, measured, row) {
+        return Some(row_or(lent.dists, column, row, f32::NAN));
     }
     None
 }
 
 // The distance of a trip's first row with a sequence.
 #[tactic(auto, unfolding(crate::specs::Dist::seq_dist))]
-pub fn seq_dist(
-    bytes: &[u8],
-    words: &[u32],
-    dists: &[f32],
-    c: Course,
-    trip: usize,
-    sequence: u32,
-) -> Option<f32>
-    ensures { result ≡ seq_dist bytes.now words.now dists.now c trip sequence }
+pub fn seq_dist(lent: &Lent, c: Course, trip: usize, sequence: u32) -> Option<f32>
+    ensures { result ≡ seq_dist lent.now.bytes.now lent.now.words.now lent.now.dists.now c trip sequence }
 {
     let firsts = c.trips.first;
     let counts = c.trips.count;
     let column = c.times.sequence;
-    let from = cell(words, firsts, trip);
-    let n = cell(words, counts, trip);
-    row_dist(bytes, dists, c, seq_row(words, column, from, n, sequence))
+    let from = cell(lent.words, firsts, trip);
+    let n = cell(lent.words, counts, trip);
+    row_dist(lent, c, seq_row(lent.words, column, from, n, sequence))
 }

@@ -2,7 +2,7 @@
 ghost use Rattle.std.specs.Prelude.{◌≡◌, get_or, ◌+◌};
 ghost use Rattle.service_ranges.specs.Range.{on_weekday, in_range};
 
-use ids::Span;
+use ids::{Lent, Span};
 use tables::Ranges;
 
 // Row k of a column of bytes.
@@ -29,17 +29,17 @@ fn on_weekday(weekdays: u8, day: u32) -> bool
 }
 
 // Whether row k of the ranges has the day, both ends included, and its weekday.
-pub fn in_range(bytes: &[u8], words: &[u32], g: Ranges, day: u32, k: usize) -> bool
-    ensures { result ≡ in_range bytes.now words.now g day k }
+pub fn in_range(lent: &Lent, g: Ranges, day: u32, k: usize) -> bool
+    ensures { result ≡ in_range lent.now.bytes.now lent.now.words.now g day k }
 {
     let first = g.first;
     let last = g.last;
     let weekdays = g.weekdays;
-    if (day as u64) < days::ordinal_of(ids::cell(words, first, k)) {
+    if (day as u64) < days::ordinal_of(ids::cell(lent.words, first, k)) {
         return false;
     }
-    if days::ordinal_of(ids::cell(words, last, k)) < day as u64 {
+    if days::ordinal_of(ids::cell(lent.words, last, k)) < day as u64 {
         return false;
     }
-    on_weekday(byte(bytes, weekdays, k), day)
+    on_weekday(byte(lent.bytes, weekdays, k), day)
 }

@@ -6,4 +6,4 @@
 
 mod active; // whether a service runs on a day
 
-pub use active::runs;
+pub use active::Calendar;

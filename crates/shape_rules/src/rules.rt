@@ -7,9 +7,9 @@ ghost use Rattle.shape_rules.specs.Parts.{shapes_causes, points_causes, points_w
 
 use column_order::Key;
 use faults::Test;
-use ids::Span;
+use ids::{Lent, Span};
 use refusals::Refusal;
-use tables::{Bounds, Lent, Mark, Points, Pool, Shapes};
+use tables::{Bounds, Mark, Points, Pool, Shapes};
 use verdicts::Verdict;
 
 // The shapes, and their points among so many.

@@ -41,10 +41,10 @@ abbrev pub short_stop : List ℕ
 short_stop = 65 ∷ 58 ∷ 81 ∷ 58 ∷ 49 ∷ 50 ∷ 51 ∷ []
 
 -- a trip of the line that departs at second s, runs on both days, and is asked of at a second of today
-abbrev pub daily : ℕ → ℕ → Fit
+abbrev pub daily : ℕ → ℕ → Option Fit
 daily second s = nearer (if_runs true s second) (if_runs (leb 43200 s) s (second + 86400))
 
-abbrev daily_at : ℕ → List ℕ → ℕ → Fit
+abbrev daily_at : ℕ → List ℕ → ℕ → Option Fit
 daily_at second departures k = daily second (get_or departures k 0)
 
 -- which of these departures is matched at that second

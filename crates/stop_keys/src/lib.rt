@@ -4,4 +4,4 @@
 
 mod key; // the stop of a key, and of the keys that begin with the feed
 
-pub use key::{or_feed, or_stop};
+pub use key::StopIds;

@@ -1,38 +1,35 @@
 // The cursor's step on a lent line.
 ghost use Rattle.std.specs.Prelude.{◌≡◌};
-ghost use Rattle.line_answers.specs.Answers.{step_answer};
+ghost use Rattle.refusals.specs.Answer.{answer_of, number_of};
 ghost use Rattle.stop_projection.specs.Step.{step_refusal, stepped_of};
 
-use lengths::Point;
-use line_answers::Stepped;
-use projection::Cursor;
+use lengths::{Point, Polyline};
+use projection::{Cursor, Step};
+use refusals::Refusal;
 
-// The first refusal that applies, or 0: columns of unequal length, over 8,192 points, a position off the globe.
-fn refusal(lat: &[f64], lon: &[f64], stop: Point) -> u32
-    ensures { result ≡ step_refusal lat.now lon.now stop }
+// Refused are columns of unequal length, else over 8,192 points, else a position off the globe.
+fn check_step(line: Polyline, stop: Point) -> Result<(), Refusal>
+    ensures { number_of (answer_of result) ≡ step_refusal line.entry.lat.now line.entry.lon.now stop }
 {
-    if lat.len() != lon.len() {
-        return 1;
+    if line.lat.len() != line.lon.len() {
+        return Err(Refusal::Columns);
     }
-    if 8192 < lat.len() {
-        return 2;
+    if 8192 < line.lat.len() {
+        return Err(Refusal::Count);
     }
-    if column_floats::off_globe(lat, lon, b"", true) {
-        return 3;
+    if column_floats::off_globe(line.lat, line.lon, b"", true) {
+        return Err(Refusal::Position);
     }
     if globe::on_globe(stop.lat, stop.lon) {
-        return 0;
+        return Ok(());
     }
-    3
+    Err(Refusal::Position)
 }
 
 // The vertex that a stop lies at from the cursor on, and the next cursor; or the first refusal that applies.
-pub fn project_stop(lat: &[f64], lon: &[f64], cursor: Cursor, stop: Point) -> Stepped
-    ensures { step_answer result ≡ stepped_of lat.now lon.now cursor stop }
+pub fn project_stop(line: Polyline, cursor: Cursor, stop: Point) -> Result<Step, Refusal>
+    ensures { answer_of result ≡ stepped_of line.entry.lat.now line.entry.lon.now cursor stop }
 {
-    let n = refusal(lat, lon, stop);
-    if n != 0 {
-        return Stepped::Refused(n);
-    }
-    Stepped::To(cursor.step(lat, lon, stop))
+    check_step(line, stop)?;
+    Ok(cursor.step(line, stop))
 }

@@ -4,18 +4,17 @@ ghost use Rattle.lengths.specs.Line.{line_of};
 ghost use Rattle.stop_routes.specs.Routed.{roundabout, routed_of, route_between};
 
 use ieee::max_of;
-use lengths::{Point, metres};
+use lengths::{Point, Polyline, metres};
 use line_parts::Part;
 use nearest::nearest_idx;
 use routes::{Route, route_of};
 use ways::Way;
 
+// A route, and the way that it is sailed.
 #[derive(Clone, Copy)]
-pub enum Routed {
-    // This route, sailed this way.
-    Over(Route, Way),
-    // The stops have one nearest vertex, the part is under a metre, or it is roundabout.
-    Nothing,
+pub struct Routed {
+    pub route: Route,
+    pub way: Way,
 }
 
 // Whether a way of this length is over four times the straight line and over 500 metres: then the
@@ -26,45 +25,38 @@ fn is_roundabout(total: f64, prev: Point, next: Point) -> bool
     total > max_of(metres(prev, next), 1.0) * 4.0 && total > 500.0
 }
 
-// The route over a part, unless it is refused.
-fn unless_refused(
-    lat: &[f64],
-    lon: &[f64],
-    part: Part,
-    way: Way,
-    prev: Point,
-    next: Point,
-) -> Routed
-    ensures { result ≡ routed_of (line_of lat.now lon.now) part way prev next }
+// The route over a part, unless it is under a metre or roundabout.
+fn unless_refused(line: Polyline, part: Part, way: Way, prev: Point, next: Point) -> Option<Routed>
+    ensures { result ≡ routed_of (line_of line.entry.lat.now line.entry.lon.now) part way prev next }
 {
-    let route = route_of(lat, lon, part);
+    let route = route_of(line, part);
     if route.total < 1.0 || is_roundabout(route.total, prev, next) {
-        Routed::Nothing
+        None
     } else {
-        Routed::Over(route, way)
+        Some(Routed { route, way })
     }
 }
 
-// From a stop to the next.
+// From a stop to the next; none where the stops have one nearest vertex.
 #[tactic(auto, unfolding(crate::specs::Routed::route_between))]
-pub fn route_between(lat: &[f64], lon: &[f64], prev: Point, next: Point) -> Routed
-    ensures { result ≡ route_between (line_of lat.now lon.now) prev next }
+pub fn route_between(line: Polyline, prev: Point, next: Point) -> Option<Routed>
+    ensures { result ≡ route_between (line_of line.entry.lat.now line.entry.lon.now) prev next }
 {
-    let i0 = nearest_idx(lat, lon, prev);
-    let i1 = nearest_idx(lat, lon, next);
+    let i0 = nearest_idx(line, prev);
+    let i1 = nearest_idx(line, next);
     if i0 < i1 {
         let part = Part {
             first: i0,
             last: i1,
         };
-        unless_refused(lat, lon, part, Way::With, prev, next)
+        unless_refused(line, part, Way::With, prev, next)
     } else if i1 < i0 {
         let part = Part {
             first: i1,
             last: i0,
         };
-        unless_refused(lat, lon, part, Way::Against, prev, next)
+        unless_refused(line, part, Way::Against, prev, next)
     } else {
-        Routed::Nothing
+        None
     }
 }

@@ -6,8 +6,9 @@ ghost use Rattle.verdicts.specs.Verdict.{least};
 ghost use Rattle.stop_rules.specs.Parts.{stops_causes};
 
 use faults::Test;
+use ids::Lent;
 use refusals::Refusal;
-use tables::{Bounds, Lent, Mark, Pool, Stops};
+use tables::{Bounds, Mark, Pool, Stops};
 use verdicts::Verdict;
 
 // The stops: their positions, and their ids, of which the raw one may be empty.

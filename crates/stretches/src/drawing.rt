@@ -4,7 +4,7 @@ ghost use Rattle.lengths.specs.Line.{line_of};
 ghost use Rattle.stretches.specs.Drawing.{bearing_of_way, between_of, first_of, last_of, draw_of};
 
 use crate::spot::Spot;
-use lengths::Point;
+use lengths::{Point, Polyline};
 use line_parts::{Part, next_point, point};
 
 // In degrees.
@@ -36,12 +36,12 @@ fn between(p: Point, q: Point, t: f64) -> Drawn
 
 // At the first vertex of a part, towards the next; bearing 0 where it has no other.
 #[tactic(auto, unfolding(crate::specs::Drawing::first_of))]
-fn first_of(lat: &[f64], lon: &[f64], part: Part) -> Drawn
-    ensures { result ≡ first_of (line_of lat.now lon.now) part }
+fn first_of(line: Polyline, part: Part) -> Drawn
+    ensures { result ≡ first_of (line_of line.entry.lat.now line.entry.lon.now) part }
 {
-    let p = point(lat, lon, part.first);
+    let p = point(line, part.first);
     let bearing = if part.first < part.last {
-        bearing_of_way(p, next_point(lat, lon, part.first))
+        bearing_of_way(p, next_point(line, part.first))
     } else {
         0.0
     };
@@ -54,25 +54,25 @@ fn first_of(lat: &[f64], lon: &[f64], part: Part) -> Drawn
 
 // At its last, from the one before.
 #[tactic(auto, unfolding(crate::specs::Drawing::last_of))]
-fn last_of(lat: &[f64], lon: &[f64], part: Part) -> Drawn
-    ensures { result ≡ last_of (line_of lat.now lon.now) part }
+fn last_of(line: Polyline, part: Part) -> Drawn
+    ensures { result ≡ last_of (line_of line.entry.lat.now line.entry.lon.now) part }
 {
-    let p = point(lat, lon, part.last);
+    let p = point(line, part.last);
     Drawn {
         lat: p.lat,
         lon: p.lon,
-        bearing: bearing_of_way(point(lat, lon, part.last.saturating_sub(1)), p),
+        bearing: bearing_of_way(point(line, part.last.saturating_sub(1)), p),
     }
 }
 
 // A stretch's bearing is in the order of the vertices, whichever way it is sailed.
-pub fn draw(lat: &[f64], lon: &[f64], part: Part, spot: Spot) -> Drawn
-    ensures { result ≡ draw_of (line_of lat.now lon.now) part spot }
+pub fn draw(line: Polyline, part: Part, spot: Spot) -> Drawn
+    ensures { result ≡ draw_of (line_of line.entry.lat.now line.entry.lon.now) part spot }
 {
     match spot {
-        Spot::First => first_of(lat, lon, part),
-        Spot::Stretch(k, t) => between(point(lat, lon, k), next_point(lat, lon, k), t),
-        Spot::Straight(t) => between(point(lat, lon, part.first), point(lat, lon, part.last), t),
-        Spot::NoStretch => last_of(lat, lon, part),
+        Spot::First => first_of(line, part),
+        Spot::Stretch(k, t) => between(point(line, k), next_point(line, k), t),
+        Spot::Straight(t) => between(point(line, part.first), point(line, part.last), t),
+        Spot::NoStretch => last_of(line, part),
     }
 }

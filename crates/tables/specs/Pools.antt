@@ -3,7 +3,7 @@ use Rattle.std.specs.Prelude.{ℕ, List, ℤ, Float, length, take, drop}
 use Rattle.ids.specs.declared.pool.Span.{Span}
 use Rattle.tables.specs.declared.mark.Mark.{Mark}
 use Rattle.tables.specs.declared.mark.Pool.{Pool}
-use Rattle.tables.specs.declared.pools.Lent.{Lent}
+use Rattle.ids.specs.declared.pool.Lent.{Lent}
 use Rattle.tables.specs.declared.mark.Pool.TheVariants.{Bytes, Words, Times, Reals, Dists}
 
 pub record Pools : Type 0 where

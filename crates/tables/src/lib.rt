@@ -5,7 +5,7 @@
 mod bounds; // bounds.rt: how large each table and id may be
 mod lent; // lent.rt: the tables and their columns
 mod mark; // mark.rt: a column's pool, and which of its rows have a value
-mod pools; // pools.rt: the pools, and a column's part of its pool
+mod pools; // pools.rt: how long a pool is, and a column's part of its pool
 
 pub use bounds::Bounds;
 pub use lent::{
@@ -13,4 +13,4 @@ pub use lent::{
     Sailing, Samples, Service, Shapes, StopTimes, Stops, Tables, Trips, Updates,
 };
 pub use mark::{Mark, Pool};
-pub use pools::{Lent, cut};
+pub use pools::{cut, pool_length};

@@ -1,32 +1,20 @@
-// The five pools that a caller lends, and a column's part of its pool.
+// How long a pool is, and a column's part of its pool.
 ghost use Rattle.std.specs.Prelude.{◌≡◌};
 ghost use Rattle.tables.specs.Pools.{part_of, pools_of, pool_length};
 
 use crate::mark::Pool;
-use ids::Span;
+use ids::{Lent, Span};
 
-/// What a caller lends: the pools that the columns of all tables lie in.
-#[derive(Clone, Copy)]
-pub struct Lent<'a> {
-    pub bytes: &'a [u8],
-    pub words: &'a [u32],
-    pub times: &'a [i64],
-    pub reals: &'a [f64],
-    pub dists: &'a [f32],
-}
-
-impl<'a> Lent<'a> {
-    /// How many elements a pool has.
-    pub fn pool_length(&self, pool: Pool) -> usize
-        ensures { result ≡ pool_length (pools_of self.now) pool }
-    {
-        match pool {
-            Pool::Bytes => self.bytes.len(),
-            Pool::Words => self.words.len(),
-            Pool::Times => self.times.len(),
-            Pool::Reals => self.reals.len(),
-            Pool::Dists => self.dists.len(),
-        }
+/// How many elements a pool has.
+pub fn pool_length(lent: &Lent, pool: Pool) -> usize
+    ensures { result ≡ pool_length (pools_of lent.now) pool }
+{
+    match pool {
+        Pool::Bytes => lent.bytes.len(),
+        Pool::Words => lent.words.len(),
+        Pool::Times => lent.times.len(),
+        Pool::Reals => lent.reals.len(),
+        Pool::Dists => lent.dists.len(),
     }
 }
 

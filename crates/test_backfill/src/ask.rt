@@ -1,5 +1,5 @@
 // The answer to a question.
-use line_answers::Backfilled;
+use refusals::Refusal;
 use std::io;
 use trip_backfill::{backfill_trip, backfill_trips};
 use worlds::Pools;
@@ -9,37 +9,23 @@ pub(crate) fn answer(out: &impl Print, pools: &Pools<'_>, n: u64) -> io::Result<
     let mut dist = [0.0f32; 32];
     let mut measured = [0u8; 32];
     match backfilled(pools, n, &mut dist, &mut measured) {
-        Backfilled::Rows(rows) => print(out, &dist, &measured, rows)?,
-        Backfilled::Refused(number) => print!(out; "refused {number}")?,
+        Ok(rows) => print(out, &dist, &measured, rows)?,
+        Err(refusal) => print!(out; "refused {}", refusal.number())?,
     }
     println!(out; "")
 }
 
-fn backfilled(pools: &Pools<'_>, n: u64, dist: &mut [f32], measured: &mut [u8]) -> Backfilled {
-    let l = pools.lent();
+fn backfilled(
+    pools: &Pools<'_>,
+    n: u64,
+    dist: &mut [f32],
+    measured: &mut [u8],
+) -> Result<usize, Refusal> {
+    let lent = pools.lent();
     let t = worlds::tables(pools.words);
     match n {
-        0 => backfill_trips(
-            l.bytes,
-            l.words,
-            pools.times,
-            l.reals,
-            l.dists,
-            t,
-            dist,
-            measured,
-        ),
-        _ => backfill_trip(
-            l.bytes,
-            l.words,
-            pools.times,
-            l.reals,
-            l.dists,
-            t,
-            n as usize - 1,
-            dist,
-            measured,
-        ),
+        0 => backfill_trips(&lent, t, dist, measured),
+        _ => backfill_trip(&lent, t, n as usize - 1, dist, measured),
     }
 }
 

@@ -1,6 +1,7 @@
 // What is drawn, and the answer as it is written.
 use journey_rules::JourneyLegs;
-use point_columns::Drawing;
+use point_columns::Sheet;
+use refusals::Refusal;
 use std::io;
 use worlds::{Pools, points, span};
 
@@ -15,30 +16,29 @@ pub(crate) fn answer(out: &impl Print, pools: &Pools<'_>, n: u64) -> io::Result<
     if ROOM < room {
         return Ok(());
     }
+    let mut sheet = Sheet {
+        lat: &mut lat[..room],
+        lon: &mut lon[..room],
+    };
     let drawn = match n {
-        0 => leg(pools, &mut lat[..room], &mut lon[..room]),
-        _ => journey(pools, &mut lat[..room], &mut lon[..room]),
+        0 => leg(pools, &mut sheet),
+        _ => journey(pools, &mut sheet),
     };
     tell(out, &lat, &lon, drawn)
 }
 
-fn leg(pools: &Pools<'_>, lat: &mut [f64], lon: &mut [f64]) -> Drawing {
+fn leg(pools: &Pools<'_>, sheet: &mut Sheet) -> Result<usize, Refusal> {
     leg_drawing::leg_geometry(
-        pools.bytes,
-        pools.words,
-        pools.times,
-        pools.reals,
-        pools.dists,
+        &pools.lent(),
         worlds::tables(pools.words),
         worlds::leg(pools.words),
         ids::word(pools.words, 0),
         ids::word(pools.words, 1),
-        lat,
-        lon,
+        sheet,
     )
 }
 
-fn journey(pools: &Pools<'_>, lat: &mut [f64], lon: &mut [f64]) -> Drawing {
+fn journey(pools: &Pools<'_>, sheet: &mut Sheet) -> Result<usize, Refusal> {
     let words: &[u32] = pools.words;
     let legs = JourneyLegs {
         walk: span(words, 0),
@@ -50,22 +50,18 @@ fn journey(pools: &Pools<'_>, lat: &mut [f64], lon: &mut [f64]) -> Drawing {
         ended: span(words, 8),
         points: points(words, 9),
     };
-    journeys::journey_geometry(
-        pools.bytes,
-        words,
-        pools.times,
-        pools.reals,
-        pools.dists,
-        legs,
-        lat,
-        lon,
-    )
+    journeys::journey_geometry(&pools.lent(), legs, sheet)
 }
 
 // Writes how many points there are, and the bits of each; or the number of the refusal.
-fn tell(out: &impl Print, lat: &[f64], lon: &[f64], drawn: Drawing) -> io::Result<()> {
+fn tell(
+    out: &impl Print,
+    lat: &[f64],
+    lon: &[f64],
+    drawn: Result<usize, Refusal>,
+) -> io::Result<()> {
     match drawn {
-        Drawing::Points(points) => {
+        Ok(points) => {
             print!(out; "points {points}")?;
             for (lat, lon) in lat.iter().zip(lon).take(points) {
                 let lat = float_bits::bits_of_f64(*lat);
@@ -73,7 +69,10 @@ fn tell(out: &impl Print, lat: &[f64], lon: &[f64], drawn: Drawing) -> io::Resul
                 print!(out; " {lat:016x} {lon:016x}")?;
             }
         }
-        Drawing::Refused(number) => print!(out; "refused {number}")?,
+        Err(refusal) => {
+            let number = refusal.number();
+            print!(out; "refused {number}")?;
+        }
     }
     println!(out; "")
 }

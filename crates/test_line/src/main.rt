@@ -22,6 +22,7 @@ mod read; // read.rt: the numbers of a line of text
 mod tell; // tell.rt: the answers
 
 use input_bytes::read_full;
+use lengths::Polyline;
 use projection::Cursor;
 use std::io;
 
@@ -92,11 +93,21 @@ fn step(out: &impl Print, asked: &mut Asked, words: &[u8]) -> io::Result<()> {
     } else if words.starts_with(b"stop") {
         // the trip's next stop
         let stop = read::position(words, 5);
-        let passed = asked.cursor.pass(asked.lat(), asked.lon(), stop);
+        let passed = asked.cursor.pass(
+            Polyline {
+                lat: asked.lat(),
+                lon: asked.lon(),
+            },
+            stop,
+        );
         asked.cursor = passed.cursor;
         tell::found(out, passed.vertex)?;
     } else {
-        ask::answer(out, asked.lat(), asked.lon(), words)?;
+        let line = Polyline {
+            lat: asked.lat(),
+            lon: asked.lon(),
+        };
+        ask::answer(out, line, words)?;
     }
     Ok(())
 }

@@ -1,6 +1,6 @@
 // The answers.
+use refusals::Refusal;
 use std::io;
-use timetable_answers::{Matched, Running};
 use worlds::Pools;
 
 // Writes the answer of the last row, where the table with the letter asks. Says how many rows the table keeps: a question is asked once.
@@ -18,42 +18,34 @@ pub(crate) fn answered(
     Ok(0)
 }
 
-fn matched(pools: &Pools<'_>) -> Matched {
+fn matched(pools: &Pools<'_>) -> Result<Option<usize>, Refusal> {
     timetable::match_trip(
-        pools.bytes,
-        pools.words,
-        pools.times,
-        pools.reals,
-        pools.dists,
+        &pools.lent(),
         worlds::tables(pools.words),
         worlds::journey(pools.words),
     )
 }
 
-fn running(pools: &Pools<'_>) -> Running {
+fn running(pools: &Pools<'_>) -> Result<bool, Refusal> {
     service_days::service_runs(
-        pools.bytes,
-        pools.words,
-        pools.times,
-        pools.reals,
-        pools.dists,
+        &pools.lent(),
         worlds::tables(pools.words),
         worlds::service(pools.words),
     )
 }
 
-fn tell_trip(out: &impl Print, answer: Matched) -> io::Result<()> {
+fn tell_trip(out: &impl Print, answer: Result<Option<usize>, Refusal>) -> io::Result<()> {
     match answer {
-        Matched::Trip(trip) => println!(out; "trip {trip}"),
-        Matched::Nothing => println!(out; "nothing"),
-        Matched::Refused(number) => println!(out; "refused {number}"),
+        Ok(Some(trip)) => println!(out; "trip {trip}"),
+        Ok(None) => println!(out; "nothing"),
+        Err(refusal) => println!(out; "refused {}", refusal.number()),
     }
 }
 
-fn tell_running(out: &impl Print, answer: Running) -> io::Result<()> {
+fn tell_running(out: &impl Print, answer: Result<bool, Refusal>) -> io::Result<()> {
     match answer {
-        Running::Runs => println!(out; "runs"),
-        Running::Rests => println!(out; "rests"),
-        Running::Refused(number) => println!(out; "refused {number}"),
+        Ok(true) => println!(out; "runs"),
+        Ok(false) => println!(out; "rests"),
+        Err(refusal) => println!(out; "refused {}", refusal.number()),
     }
 }

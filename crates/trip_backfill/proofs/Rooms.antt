@@ -6,8 +6,10 @@ use mathlib.Core.List.{List, ◌++◌}
 use borrow.Author.Tests.{lt-ltb, le-ltb}
 use lib.Ieee.{Float}
 use lib.ListN.{length, drop}
+use Rattle.refusals.specs.declared.refusal.Refusal.{Refusal}
+use Rattle.refusals.specs.Refusal.{refusal_number}
 use Rattle.refusals.specs.Answer.{Answer, refused, given}
-use Rattle.answers.proofs.Told.{denied, refused_first, kept}
+use Rattle.answers.proofs.Told.{numbered, denied, refused_first, kept}
 use Rattle.tables.specs.Pools.{Pools, part_of}
 use Rattle.tables.specs.Bounds.{chart_bounds}
 use Rattle.verdicts.specs.Refuse.{refusal_of}
@@ -55,9 +57,13 @@ module _ (p : Pools) (t : Tables) (trip n : ℕ) (dist : List Float) (measured :
   unfolding fill_refusal short_of
   refused_so {k} e h = rw (← e) (refused_first k (length (lent_rows p t)) (min (length dist) (length measured)) h)
 
-  pub op_refused : {k : ℕ} → k ≡ refusal_of p (geometry_causes chart_bounds t) → (k ≡ 0 → ⊥) → Told (refused k) dist measured
+  pub op_refused : (r : Refusal) → refusal_number r ≡ refusal_of p (geometry_causes chart_bounds t) → Told (refused (refusal_number r)) dist measured
   unfolding filled_of filled_dists filled_marks
-  op_refused {k} e h = let r = refused_so e h in (rw r (denied k (length (lent_rows p t)) h), (rw r (kept k (dists_in after) dist h), rw r (kept k (marks_in after) measured h)))
+  op_refused r e =
+      let k = refusal_number r in
+      let h = numbered r in
+      let q = refused_so e h in
+      (rw q (denied k (length (lent_rows p t)) h), (rw q (kept k (dists_in after) dist h), rw q (kept k (marks_in after) measured h)))
 
   same_refusal : refusal_of p (geometry_causes chart_bounds t) ≡ 0 → (list : List Distance) → length list ≡ length (lent_rows p t) → fill_refusal p t dist measured ≡ short_of 0 list dist measured
   unfolding fill_refusal short_of

@@ -1,11 +1,11 @@
 // How well a trip's first departure fits the moment asked of.
 ghost use Rattle.std.specs.Prelude.{◌≡◌, leb, ◌&&◌};
-ghost use Rattle.services.specs.Runs.{Calendared};
 ghost use Rattle.trip_fits.specs.Fits.{runs_on, departing, trip_fit};
+ghost use Rattle.trip_fits.specs.Plans.{Planned, ShortTokens};
 
 use departure_fits::{Count, Fit, fit_if, nearer_of};
-use ids::Span;
-use services::runs;
+use ids::{Lent, Span};
+use services::Calendar;
 use tables::{Calendars, Exceptions, Lines, Ranges, Trips};
 
 // What a trip is found in by its line and time.
@@ -20,83 +20,74 @@ pub struct Plan {
     pub exceptions: Exceptions,
 }
 
-// Whether the trip runs on the day.
-fn trip_runs(bytes: &[u8], words: &[u32], p: Plan, trip: usize, day: u32) -> bool
-    requires { Calendared bytes.now words.now p.calendars p.ranges p.exceptions }
-    ensures { result ≡ runs_on bytes.now words.now p trip day }
-{
-    let feeds = p.trips.feed;
-    let services = p.trips.service;
-    let c = p.calendars;
-    let g = p.ranges;
-    let e = p.exceptions;
-    runs(
-        bytes,
-        words,
-        c,
-        g,
-        e,
-        ids::id(bytes, words, feeds, trip),
-        ids::id(bytes, words, services, trip),
-        day,
-    )
+// The moment asked of, counted in its own service day and in the day before.
+#[derive(Clone, Copy)]
+pub struct Asked {
+    pub today: Count,
+    pub yesterday: Count,
 }
 
-// Whether the trip runs on the day before, and a departure at s of that day may be meant.
-fn late_runs(bytes: &[u8], words: &[u32], p: Plan, trip: usize, s: u32, day: u32) -> bool
-    requires { Calendared bytes.now words.now p.calendars p.ranges p.exceptions }
-    ensures { result ≡ (leb 43200 s && runs_on bytes.now words.now p trip day) }
-{
-    if s < 43200 {
-        return false;
-    }
-    trip_runs(bytes, words, p, trip, day)
+// A plan in the lent tables, whose line entries and calendars ascend, and whose tokens are short.
+#[derive(Clone, Copy)]
+pub struct Timetable<'a> {
+    pub lent: Lent<'a>,
+    pub plan: Plan,
+    pub ghost planned: { Planned lent.bytes.now lent.words.now plan },
+    pub ghost short: { ShortTokens lent.bytes.now lent.words.now plan },
 }
 
-// A departure at second s of the trip: of today's service day, or of yesterday's where it is from noon on.
-fn departing_at(
-    bytes: &[u8],
-    words: &[u32],
-    p: Plan,
-    today: Count,
-    yesterday: Count,
-    trip: usize,
-    s: u32,
-) -> Fit
-    requires { Calendared bytes.now words.now p.calendars p.ranges p.exceptions }
-    ensures { result ≡ departing bytes.now words.now p today yesterday trip s }
-{
-    let a = fit_if(trip_runs(bytes, words, p, trip, today.day), s, today.second);
-    let b = fit_if(
-        late_runs(bytes, words, p, trip, s, yesterday.day),
-        s,
-        yesterday.second,
-    );
-    nearer_of(a, b)
-}
+impl<'a> Timetable<'a> {
+    // Whether the trip runs on the day.
+    #[tactic(auto, unfolding(crate::specs::Fits::runs_on))]
+    fn trip_runs(&self, trip: usize, day: u32) -> bool
+        ensures { result ≡ runs_on self.now.lent.bytes.now self.now.lent.words.now self.now.plan trip day }
+    {
+        let p = self.plan;
+        let calendar = Calendar {
+            lent: self.lent,
+            calendars: p.calendars,
+            ranges: p.ranges,
+            exceptions: p.exceptions,
+        };
+        calendar.runs(
+            ids::id(&self.lent, p.trips.feed, trip),
+            ids::id(&self.lent, p.trips.service, trip),
+            day,
+        )
+    }
 
-// How well the trip's first departure fits.
-pub fn fit_of(
-    bytes: &[u8],
-    words: &[u32],
-    p: Plan,
-    today: Count,
-    yesterday: Count,
-    trip: usize,
-) -> Fit
-    requires { Calendared bytes.now words.now p.calendars p.ranges p.exceptions }
-    ensures { result ≡ trip_fit bytes.now words.now p today yesterday trip }
-{
-    let frequency = p.trips.frequency;
-    let first = p.trips.first;
-    let departures = p.departures;
-    if columns::bit(bytes, frequency, trip) != 0 {
-        return Fit::Never;
+    // Whether the trip runs on the day before, and a departure at s of that day may be meant.
+    fn late_runs(&self, trip: usize, s: u32, day: u32) -> bool
+        ensures { result ≡ (leb 43200 s && runs_on self.now.lent.bytes.now self.now.lent.words.now self.now.plan trip day) }
+    {
+        s >= 43200 && self.trip_runs(trip, day)
     }
-    let row = ids::cell(words, first, trip);
-    if departures.n <= row {
-        return Fit::Never;
+
+    // A departure at second s of the trip: of today's service day, or of yesterday's where it is from noon on.
+    #[tactic(auto, unfolding(crate::specs::Fits::departing))]
+    fn departing_at(&self, asked: Asked, trip: usize, s: u32) -> Option<Fit>
+        ensures { result ≡ departing self.now.lent.bytes.now self.now.lent.words.now self.now.plan asked.today asked.yesterday trip s }
+    {
+        let Asked { today, yesterday } = asked;
+        let a = fit_if(self.trip_runs(trip, today.day), s, today.second);
+        let b = fit_if(self.late_runs(trip, s, yesterday.day), s, yesterday.second);
+        nearer_of(a, b)
     }
-    let s = ids::cell(words, departures, row as usize);
-    departing_at(bytes, words, p, today, yesterday, trip, s)
+
+    // How well the trip's first departure fits.
+    #[tactic(auto, unfolding(crate::specs::Fits::trip_fit))]
+    pub fn fit_of(&self, asked: Asked, trip: usize) -> Option<Fit>
+        ensures { result ≡ trip_fit self.now.lent.bytes.now self.now.lent.words.now self.now.plan asked.today asked.yesterday trip }
+    {
+        let p = self.plan;
+        if columns::bit(self.lent.bytes, p.trips.frequency, trip) != 0 {
+            return None;
+        }
+        let row = ids::cell(self.lent.words, p.trips.first, trip);
+        if p.departures.n <= row {
+            return None;
+        }
+        let s = ids::cell(self.lent.words, p.departures, row as usize);
+        self.departing_at(asked, trip, s)
+    }
 }

@@ -6,4 +6,4 @@
 
 mod fit; // how well a trip's first departure fits
 
-pub use fit::{Plan, fit_of};
+pub use fit::{Asked, Plan, Timetable};

@@ -4,7 +4,7 @@ ghost use Rattle.ids.specs.Pool.{id_of};
 ghost use Rattle.ids.specs.Rows.{GoodIds};
 ghost use Rattle.trip_ids.specs.Trips.{trip_at, trip_of};
 
-use ids::Span;
+use ids::{Lent, Span};
 use tables::IdRows;
 
 // The trip of the row found.
@@ -18,11 +18,11 @@ pub fn trip_at(words: &[u32], row: Span, place: Option<usize>) -> Option<usize>
 }
 
 // The trip whose id is the key.
-pub fn by_key(bytes: &[u8], words: &[u32], tripkeys: IdRows, key: &[u8]) -> Option<usize>
-    requires { GoodIds (id_of bytes.now words.now tripkeys.id) tripkeys.id.starts.n }
-    ensures { result ≡ trip_of bytes.now words.now tripkeys key.now }
+pub fn by_key(lent: &Lent, tripkeys: IdRows, key: &[u8]) -> Option<usize>
+    requires { GoodIds (id_of lent.now.bytes.now lent.now.words.now tripkeys.id) tripkeys.id.starts.n }
+    ensures { result ≡ trip_of lent.now.bytes.now lent.now.words.now tripkeys key.now }
 {
     let id = tripkeys.id;
     let row = tripkeys.row;
-    trip_at(words, row, ids::find(bytes, words, id, key))
+    trip_at(lent.words, row, ids::find(lent, id, key))
 }

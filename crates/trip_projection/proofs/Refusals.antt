@@ -5,8 +5,10 @@ use mathlib.Core.Path.{◌≡◌}
 use mathlib.Core.List.{List}
 use lib.ListN.{length}
 use Rattle.ids.specs.Pool.{id_of}
+use Rattle.refusals.specs.declared.refusal.Refusal.{Refusal}
+use Rattle.refusals.specs.Refusal.{refusal_number}
 use Rattle.refusals.specs.Answer.{Answer, refused}
-use Rattle.answers.proofs.Told.{denied, refused_first, kept}
+use Rattle.answers.proofs.Told.{numbered, denied, refused_first, kept}
 use Rattle.tables.specs.Pools.{Pools}
 use Rattle.tables.specs.Bounds.{chart_bounds}
 use Rattle.verdicts.specs.Refuse.{refusal_of}
@@ -18,9 +20,12 @@ use Rattle.trip_vertices.specs.Written.{found_vertices, room_answer, room_output
 use Rattle.trip_projection.specs.Answers.{asked_vertices, project_refusal, projected_of, output_of}
 
 module _ (p : Pools) (t : Tables) (l : LegAsked) (out : List ℕ) where
-  pub op_refused : {n : ℕ} → n ≡ refusal_of p (leg_causes chart_bounds t l) → (n ≡ 0 → ⊥) → (refused n ≡ projected_of p t l out) × (out ≡ output_of p t l out)
+  pub op_refused : (r : Refusal) → refusal_number r ≡ refusal_of p (leg_causes chart_bounds t l) → (refused (refusal_number r) ≡ projected_of p t l out) × (out ≡ output_of p t l out)
   unfolding projected_of output_of project_refusal
-  op_refused {n} e h = rw (← e, refused_first n (length (asked_vertices p t l)) (length out) h) (denied n (length (asked_vertices p t l)) h, kept n (asked_vertices p t l) out h)
+  op_refused r e =
+      let n = refusal_number r in
+      let h = numbered r in
+      rw (← e, refused_first n (length (asked_vertices p t l)) (length out) h) (denied n (length (asked_vertices p t l)) h, kept n (asked_vertices p t l) out h)
 
   pub op_given : refusal_of p (leg_causes chart_bounds t l) ≡ 0 → {found : Option ℕ} → found ≡ trip_of p.bytes p.words t.tripkeys (id_of p.bytes p.words l.trip 0) →
       {r : Answer ℕ} {after : List ℕ} →

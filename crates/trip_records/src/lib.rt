@@ -8,32 +8,25 @@ ghost use Rattle.filled_records.specs.Records.{core_d, core_k, laid_r, laid_a, l
 ghost use Rattle.filled_records.specs.Answers.{code_of, records_after, stops_after, dists_after, marks_after};
 
 use backfill::backfill_rows;
-use ids::Span;
+use ids::{Lent, Span};
+use lengths::Polyline;
 use record_faults::Faults;
-use record_refusals::{Lent, check_lent, verdict};
+use record_refusals::{LentRecords, check_lent, verdict};
 use stop_record::StopTime;
 use tables::{StopTimes, cut};
 
 // How many stops there are.
-fn stop_count(l: Lent) -> u32
+fn stop_count(l: LentRecords) -> u32
     ensures { result ≡ l.stops.lat.n }
 {
     l.stops.lat.n
 }
 
 // The core on the first n rows of the columns.
-fn core(
-    bytes: &[u8],
-    at: &[u32],
-    reals: &[f64],
-    l: Lent,
-    n: usize,
-    dists: &mut [f32],
-    known: &mut [u8],
-)
+fn core(lent: &Lent, at: &[u32], l: LentRecords, n: usize, dists: &mut [f32], known: &mut [u8])
     requires { (n ≤ 1000000) × (n ≤ length dists.old) × (n ≤ length known.old) }
-    ensures { (dists.new ≡ core_d bytes.now at.now reals.now l n dists.old known.old)
-        × (known.new ≡ core_k bytes.now at.now reals.now l n dists.old known.old) }
+    ensures { (dists.new ≡ core_d lent.now.bytes.now at.now lent.now.reals.now l n dists.old known.old)
+        × (known.new ≡ core_k lent.now.bytes.now at.now lent.now.reals.now l n dists.old known.old) }
 {
     let stops = l.stops;
     let line = l.line;
@@ -50,13 +43,19 @@ fn core(
         measured: unread,
     };
     backfill_rows(
-        bytes,
-        at,
-        reals,
+        &Lent {
+            bytes: lent.bytes,
+            words: at,
+            times: &[],
+            reals: lent.reals,
+            dists: &[],
+        },
         stops,
         calls,
-        cut(reals, lats),
-        cut(reals, lons),
+        Polyline {
+            lat: cut(lent.reals, lats),
+            lon: cut(lent.reals, lons),
+        },
         0,
         rows,
         &mut dists[..n],
@@ -67,22 +66,21 @@ fn core(
 // The records' columns, the core on them, and its answers into the records.
 fn write_records(
     r: &mut [StopTime],
-    bytes: &[u8],
-    reals: &[f64],
-    l: Lent,
+    lent: &Lent,
+    l: LentRecords,
     at: &mut [u32],
     dists: &mut [f32],
     known: &mut [u8],
 )
     requires { (length r.old ≤ 1000000) × (length r.old ≤ length at.old) × (length r.old ≤ length dists.old) × (length r.old ≤ length known.old) }
-    ensures { (r.new ≡ laid_r r.old bytes.now reals.now l at.old dists.old known.old)
-        × (at.new ≡ laid_a r.old bytes.now reals.now l at.old dists.old known.old)
-        × (dists.new ≡ laid_d r.old bytes.now reals.now l at.old dists.old known.old)
-        × (known.new ≡ laid_k r.old bytes.now reals.now l at.old dists.old known.old) }
+    ensures { (r.new ≡ laid_r r.old lent.now.bytes.now lent.now.reals.now l at.old dists.old known.old)
+        × (at.new ≡ laid_a r.old lent.now.bytes.now lent.now.reals.now l at.old dists.old known.old)
+        × (dists.new ≡ laid_d r.old lent.now.bytes.now lent.now.reals.now l at.old dists.old known.old)
+        × (known.new ≡ laid_k r.old lent.now.bytes.now lent.now.reals.now l at.old dists.old known.old) }
 {
     records::stops_of(r, at);
     records::columns(r, dists, known);
-    core(bytes, at, reals, l, r.len(), dists, known);
+    core(lent, at, l, r.len(), dists, known);
     records::fill(r, dists, known);
 }
 
@@ -94,7 +92,7 @@ pub extern "C" fn zebumorn_backfill_records(
     bytes: &[u8],
     words: &[u32],
     reals: &[f64],
-    l: Lent,
+    l: LentRecords,
     at: &mut [u32],
     dists: &mut [f32],
     known: &mut [u8],
@@ -114,11 +112,33 @@ pub extern "C" fn zebumorn_backfill_records(
             infinite: 0,
         },
     );
-    let lent = check_lent(bytes, words, reals, l);
+    let lent = check_lent(
+        &Lent {
+            bytes,
+            words,
+            times: &[],
+            reals,
+            dists: &[],
+        },
+        l,
+    );
     let code = verdict(c, lent, r.len(), at.len(), dists.len(), known.len());
     if code != 0 {
         return code;
     }
-    write_records(r, bytes, reals, l, at, dists, known);
+    write_records(
+        r,
+        &Lent {
+            bytes,
+            words: &[],
+            times: &[],
+            reals,
+            dists: &[],
+        },
+        l,
+        at,
+        dists,
+        known,
+    );
     0
 }

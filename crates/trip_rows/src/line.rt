@@ -2,7 +2,7 @@
 ghost use Rattle.std.specs.Prelude.{◌≡◌};
 ghost use Rattle.trip_rows.specs.Rows.{shape_span, trip_span, shape_column};
 
-use ids::Span;
+use ids::{Lent, Span};
 use tables::{Shapes, Trips, cut};
 
 // The points of a shape, counted from the first of all.
@@ -20,15 +20,15 @@ pub fn shape_span(words: &[u32], s: Shapes, shape: usize) -> Span
 
 // The points of a trip's shape; none where it has no shape.
 #[tactic(auto, unfolding(crate::specs::Rows::trip_span))]
-pub fn trip_span(bytes: &[u8], words: &[u32], t: Trips, s: Shapes, trip: usize) -> Span
-    ensures { result ≡ trip_span bytes.now words.now t s trip }
+pub fn trip_span(lent: &Lent, t: Trips, s: Shapes, trip: usize) -> Span
+    ensures { result ≡ trip_span lent.now.bytes.now lent.now.words.now t s trip }
 {
     let shaped = t.shaped;
     let shape = t.shape;
-    if columns::bit(bytes, shaped, trip) == 0 {
+    if columns::bit(lent.bytes, shaped, trip) == 0 {
         return Span { at: 0, n: 0 };
     }
-    shape_span(words, s, ids::cell(words, shape, trip) as usize)
+    shape_span(lent.words, s, ids::cell(lent.words, shape, trip) as usize)
 }
 
 // Their latitudes or longitudes, of the column of all points.

@@ -2,7 +2,7 @@
 ghost use Rattle.std.specs.Prelude.{◌≡◌, ◌+◌, get_or};
 ghost use Rattle.trip_rows.specs.Rows.{real_of, stop_point, stop_position, row_position};
 
-use ids::Span;
+use ids::{Lent, Span};
 use lengths::Point;
 use tables::{StopTimes, Stops};
 
@@ -39,28 +39,21 @@ pub fn stop_point(reals: &[f64], s: Stops, stop: usize) -> Point
 
 // Where a stop is.
 #[tactic(auto, unfolding(crate::specs::Rows::stop_position))]
-fn stop_position(bytes: &[u8], reals: &[f64], s: Stops, stop: usize) -> Option<Point>
-    ensures { result ≡ stop_position bytes.now reals.now s stop }
+fn stop_position(lent: &Lent, s: Stops, stop: usize) -> Option<Point>
+    ensures { result ≡ stop_position lent.now.bytes.now lent.now.reals.now s stop }
 {
     let positioned = s.positioned;
-    if columns::bit(bytes, positioned, stop) == 0 {
+    if columns::bit(lent.bytes, positioned, stop) == 0 {
         return None;
     }
-    Some(stop_point(reals, s, stop))
+    Some(stop_point(lent.reals, s, stop))
 }
 
 // Where the stop of a row of the stop times is.
 #[tactic(auto, unfolding(crate::specs::Rows::row_position))]
-pub fn row_position(
-    bytes: &[u8],
-    words: &[u32],
-    reals: &[f64],
-    s: Stops,
-    c: StopTimes,
-    row: usize,
-) -> Option<Point>
-    ensures { result ≡ row_position bytes.now words.now reals.now s c row }
+pub fn row_position(lent: &Lent, s: Stops, c: StopTimes, row: usize) -> Option<Point>
+    ensures { result ≡ row_position lent.now.bytes.now lent.now.words.now lent.now.reals.now s c row }
 {
     let stop = c.stop;
-    stop_position(bytes, reals, s, ids::cell(words, stop, row) as usize)
+    stop_position(lent, s, ids::cell(lent.words, stop, row) as usize)
 }

@@ -6,8 +6,9 @@ ghost use Rattle.verdicts.specs.Verdict.{least};
 ghost use Rattle.trip_rules.specs.Parts.{trips_causes};
 
 use faults::Test;
+use ids::Lent;
 use refusals::Refusal;
-use tables::{Bounds, Lent, Pool, Trips};
+use tables::{Bounds, Pool, Trips};
 use verdicts::Verdict;
 
 // The trips: their rows among so many stop times, their feeds and services, and their other columns.

@@ -2,6 +2,7 @@
 ghost use Rattle.std.specs.Prelude.{ℕ, ◌<◌, ◌≡◌, false};
 ghost use Rattle.trip_tails.specs.Tails.{has_tail, tail_row, tail_first, only_trip, tail_trip};
 
+use ids::Lent;
 use tables::IdRows;
 
 // Whether the id ends with the tail or, where that has 8 bytes or more, contains it.
@@ -18,21 +19,14 @@ fn has_tail(id: &[u8], tail: &[u8]) -> bool
 }
 
 // Whether row k's id has the tail, and its trip is another than the one found, if any is.
-fn is_row(
-    bytes: &[u8],
-    words: &[u32],
-    tripkeys: IdRows,
-    tail: &[u8],
-    found: Option<usize>,
-    k: usize,
-) -> bool
-    ensures { result ≡ tail_row bytes.now words.now tripkeys tail.now found k }
+fn is_row(lent: &Lent, tripkeys: IdRows, tail: &[u8], found: Option<usize>, k: usize) -> bool
+    ensures { result ≡ tail_row lent.now.bytes.now lent.now.words.now tripkeys tail.now found k }
 {
     let id = tripkeys.id;
     let row = tripkeys.row;
-    if has_tail(ids::id(bytes, words, id, k), tail) {
+    if has_tail(ids::id(lent, id, k), tail) {
         return match found {
-            Some(trip) => ids::cell(words, row, k) as usize != trip,
+            Some(trip) => ids::cell(lent.words, row, k) as usize != trip,
             None => true,
         };
     }
@@ -42,18 +36,17 @@ fn is_row(
 // The first such row, of which there is none before `from`.
 #[tactic(auto, using(ids::proofs::Search::first_miss))]
 fn next_row(
-    bytes: &[u8],
-    words: &[u32],
+    lent: &Lent,
     tripkeys: IdRows,
     tail: &[u8],
     found: Option<usize>,
     from: usize,
 ) -> Option<usize>
-    requires { (j : ℕ) → j < from → tail_row bytes.now words.now tripkeys tail.now found j ≡ false }
-    ensures { result ≡ tail_first bytes.now words.now tripkeys tail.now found }
+    requires { (j : ℕ) → j < from → tail_row lent.now.bytes.now lent.now.words.now tripkeys tail.now found j ≡ false }
+    ensures { result ≡ tail_first lent.now.bytes.now lent.now.words.now tripkeys tail.now found }
 {
     for k in from..tripkeys.id.starts.n as usize {
-        if is_row(bytes, words, tripkeys, tail, found, k) {
+        if is_row(lent, tripkeys, tail, found, k) {
             return Some(k);
         }
     }
@@ -61,14 +54,14 @@ fn next_row(
 }
 
 // The trip of the first row whose id has the tail, unless a later such row names another.
-fn only_trip(bytes: &[u8], words: &[u32], tripkeys: IdRows, tail: &[u8]) -> Option<usize>
-    ensures { result ≡ only_trip bytes.now words.now tripkeys tail.now }
+fn only_trip(lent: &Lent, tripkeys: IdRows, tail: &[u8]) -> Option<usize>
+    ensures { result ≡ only_trip lent.now.bytes.now lent.now.words.now tripkeys tail.now }
 {
     let row = tripkeys.row;
-    match next_row(bytes, words, tripkeys, tail, None, 0) {
+    match next_row(lent, tripkeys, tail, None, 0) {
         Some(k) => {
-            let trip = Some(ids::cell(words, row, k) as usize);
-            match next_row(bytes, words, tripkeys, tail, trip, k + 1) {
+            let trip = Some(ids::cell(lent.words, row, k) as usize);
+            match next_row(lent, tripkeys, tail, trip, k + 1) {
                 Some(_) => None,
                 None => trip,
             }
@@ -78,12 +71,12 @@ fn only_trip(bytes: &[u8], words: &[u32], tripkeys: IdRows, tail: &[u8]) -> Opti
 }
 
 // The only trip whose ids have the tail of the ref, if it has one.
-pub fn by_tail(bytes: &[u8], words: &[u32], tripkeys: IdRows, base: &[u8]) -> Option<usize>
-    ensures { result ≡ tail_trip bytes.now words.now tripkeys base.now }
+pub fn by_tail(lent: &Lent, tripkeys: IdRows, base: &[u8]) -> Option<usize>
+    ensures { result ≡ tail_trip lent.now.bytes.now lent.now.words.now tripkeys base.now }
 {
     let tail = key_parts::tail(base);
     if tail.len() == 0 {
         return None;
     }
-    only_trip(bytes, words, tripkeys, tail)
+    only_trip(lent, tripkeys, tail)
 }

@@ -1,61 +1,53 @@
 // The stops of a trip.
 ghost use Rattle.std.specs.Prelude.{◌≡◌, ◌++◌, ◌≤◌, length, drop};
 ghost use Rattle.lengths.specs.Line.{line_of};
-ghost use Rattle.line_answers.specs.Answers.{project_answer};
+ghost use Rattle.refusals.specs.Answer.{answer_of};
 ghost use Rattle.trip_rows.specs.Rows.{row_position};
 ghost use Rattle.trip_vertices.specs.Vertices.{vertex_words};
 ghost use Rattle.trip_vertices.specs.Written.{found_vertices, room_answer, room_output};
 
 use crate::mark::mark;
-use line_answers::Projected;
+use ids::Lent;
+use lengths::Polyline;
+use refusals::Refusal;
 use tables::{StopTimes, Stops, Tables};
 use trip_rows::{row_position, shape_column, trip_span};
 
 // Writes the vertices of the stops of n rows from `first` on.
 fn fill(
-    bytes: &[u8],
-    words: &[u32],
-    reals: &[f64],
+    lent: &Lent,
     stops: Stops,
     calls: StopTimes,
-    lat: &[f64],
-    lon: &[f64],
+    line: Polyline,
     first: u32,
     n: u32,
     out: &mut [u32],
 )
-    requires lon_len_bound { length (line_of lat.now lon.now) ≤ 4294967295 }
+    requires lon_len_bound { length (line_of line.lat.now line.lon.now) ≤ 4294967295 }
     requires n_in_bounds { n ≤ length out.old }
-    ensures { out.new ≡ vertex_words (line_of lat.now lon.now) (row_position bytes.now words.now reals.now stops calls) first n ++ drop n out.old }
+    ensures { out.new ≡ vertex_words (line_of line.entry.lat.now line.entry.lon.now) (row_position lent.now.bytes.now lent.now.words.now lent.now.reals.now stops calls) first n ++ drop n out.old }
 {
     let from = first as usize;
     let mut at = 0;
     for k in 0..n as usize {
-        let marked = mark(
-            lat,
-            lon,
-            at,
-            row_position(bytes, words, reals, stops, calls, from + k),
-        );
+        let marked = mark(line, at, row_position(lent, stops, calls, from + k));
         out[k] = marked.word;
         at = marked.at;
     }
 }
 
-// Writes the vertices of the stops of the trip found, if there is one and the output has room.
+// Writes the vertices of the stops of the trip found, if there is one and the output has room, and says how many.
 pub fn write(
-    bytes: &[u8],
-    words: &[u32],
-    reals: &[f64],
+    lent: &Lent,
     t: Tables,
     found: Option<usize>,
     out: &mut [u32],
-) -> Projected
-    ensures result_value { project_answer result ≡ room_answer (found_vertices bytes.now words.now reals.now t found) out.old }
-    ensures out_after { out.new ≡ room_output (found_vertices bytes.now words.now reals.now t found) out.old }
+) -> Result<usize, Refusal>
+    ensures result_value { answer_of result ≡ room_answer (found_vertices lent.now.bytes.now lent.now.words.now lent.now.reals.now t found) out.old }
+    ensures out_after { out.new ≡ room_output (found_vertices lent.now.bytes.now lent.now.words.now lent.now.reals.now t found) out.old }
 {
     let Some(trip) = found else {
-        return Projected::Rows(0);
+        return Ok(0);
     };
     let stops = t.stops;
     let trips = t.trips;
@@ -65,22 +57,22 @@ pub fn write(
     let count = trips.count;
     let lats = t.points.lat;
     let lons = t.points.lon;
-    let n = ids::cell(words, count, trip);
+    let n = ids::cell(lent.words, count, trip);
     if out.len() < n as usize {
-        return Projected::Refused(9);
+        return Err(Refusal::Room);
     }
-    let points = trip_span(bytes, words, trips, shapes, trip);
+    let points = trip_span(lent, trips, shapes, trip);
     fill(
-        bytes,
-        words,
-        reals,
+        lent,
         stops,
         calls,
-        shape_column(reals, lats, points),
-        shape_column(reals, lons, points),
-        ids::cell(words, first, trip),
+        Polyline {
+            lat: shape_column(lent.reals, lats, points),
+            lon: shape_column(lent.reals, lons, points),
+        },
+        ids::cell(lent.words, first, trip),
         n,
         out,
     );
-    Projected::Rows(n as usize)
+    Ok(n as usize)
 }

@@ -2,7 +2,7 @@
 ghost use Rattle.std.specs.Prelude.{◌+◌, ◌≡◌, pos, get_or};
 ghost use Rattle.update_rows.specs.Updates.{moment_of, moment_at, is_set, moment_or, is_timed};
 
-use ids::Span;
+use ids::{Lent, Span};
 use tables::Updates;
 
 // Whether row k of a column of flags is set.
@@ -47,13 +47,13 @@ pub fn moment_at(times: &[i64], span: Span, k: usize) -> u64
 }
 
 // Row k of a column of times, where it is set, or else of another.
-pub fn moment_or(bytes: &[u8], times: &[i64], has: Span, own: Span, other: Span, k: usize) -> u64
-    ensures { result ≡ moment_or bytes.now times.now has own other k }
+pub fn moment_or(lent: &Lent, has: Span, own: Span, other: Span, k: usize) -> u64
+    ensures { result ≡ moment_or lent.now.bytes.now lent.now.times.now has own other k }
 {
-    if is_set(bytes, has, k) {
-        return moment_at(times, own, k);
+    if is_set(lent.bytes, has, k) {
+        return moment_at(lent.times, own, k);
     }
-    moment_at(times, other, k)
+    moment_at(lent.times, other, k)
 }
 
 // Whether row k has a time.

@@ -7,8 +7,9 @@ ghost use Rattle.update_rules.specs.Parts.{updates_causes, arrivals_causes, upda
 
 use column_order::Key;
 use faults::Test;
+use ids::Lent;
 use refusals::Refusal;
-use tables::{Bounds, Lent, Mark, Pool, Sailing, Updates};
+use tables::{Bounds, Mark, Pool, Sailing, Updates};
 use verdicts::Verdict;
 
 // The updates, without their times.

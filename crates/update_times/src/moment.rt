@@ -3,46 +3,38 @@ ghost use Rattle.std.specs.Prelude.{◌≤◌, ◌≡◌, ◌++◌, map, length,
 ghost use Rattle.update_rows.specs.Updates.{moment_or};
 ghost use Rattle.update_times.specs.Times.{arrival_of, departure_of};
 
-use ids::Span;
+use ids::{Lent, Span};
 use tables::Updates;
 use update_rows::moment_or;
 
 // Writes a moment for each of the rows.
-fn fill(
-    bytes: &[u8],
-    times: &[i64],
-    has: Span,
-    own: Span,
-    other: Span,
-    rows: &[u32],
-    out: &mut [u64],
-)
+fn fill(lent: &Lent, has: Span, own: Span, other: Span, rows: &[u32], out: &mut [u64])
     requires { length rows.now ≤ length out.old }
-    ensures { out.new ≡ map (moment_or bytes.now times.now has own other) rows.now ++ drop (length rows.now) out.old }
+    ensures { out.new ≡ map (moment_or lent.now.bytes.now lent.now.times.now has own other) rows.now ++ drop (length rows.now) out.old }
 {
     for (k, row) in rows.iter().enumerate() {
-        out[k] = moment_or(bytes, times, has, own, other, *row as usize);
+        out[k] = moment_or(lent, has, own, other, *row as usize);
     }
 }
 
 // Writes when each of the rows arrives.
-pub fn fill_arrivals(bytes: &[u8], times: &[i64], u: Updates, rows: &[u32], out: &mut [u64])
+pub fn fill_arrivals(lent: &Lent, u: Updates, rows: &[u32], out: &mut [u64])
     requires { length rows.now ≤ length out.old }
-    ensures { out.new ≡ map (arrival_of bytes.now u times.now) rows.now ++ drop (length rows.now) out.old }
+    ensures { out.new ≡ map (arrival_of lent.now.bytes.now u lent.now.times.now) rows.now ++ drop (length rows.now) out.old }
 {
     let arrives = u.arrives;
     let arrival = u.arrival;
     let departure = u.departure;
-    fill(bytes, times, arrives, arrival, departure, rows, out);
+    fill(lent, arrives, arrival, departure, rows, out);
 }
 
 // Writes when each of the rows departs.
-pub fn fill_departures(bytes: &[u8], times: &[i64], u: Updates, rows: &[u32], out: &mut [u64])
+pub fn fill_departures(lent: &Lent, u: Updates, rows: &[u32], out: &mut [u64])
     requires { length rows.now ≤ length out.old }
-    ensures { out.new ≡ map (departure_of bytes.now u times.now) rows.now ++ drop (length rows.now) out.old }
+    ensures { out.new ≡ map (departure_of lent.now.bytes.now u lent.now.times.now) rows.now ++ drop (length rows.now) out.old }
 {
     let departs = u.departs;
     let departure = u.departure;
     let arrival = u.arrival;
-    fill(bytes, times, departs, departure, arrival, rows, out);
+    fill(lent, departs, departure, arrival, rows, out);
 }

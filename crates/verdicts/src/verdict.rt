@@ -8,9 +8,9 @@ ghost use Rattle.verdicts.specs.Refuse.{sooner, with_cause, least_of, id_causes}
 ghost use Rattle.verdicts.specs.Verdict.{least};
 
 use faults::{Test, fails};
-use ids::IdColumn;
+use ids::{IdColumn, Lent};
 use refusals::Refusal;
-use tables::{Lent, Mark};
+use tables::Mark;
 
 /// The least refusal so far, if there is one.
 #[derive(Clone, Copy, Debug)]

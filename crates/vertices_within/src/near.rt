@@ -8,18 +8,18 @@ ghost use Rattle.sphere_lengths.specs.Length.{way_of};
 ghost use Rattle.reach.specs.Reach.{Beyond};
 ghost use Rattle.vertices_within.specs.Near.{aside_of, distances_of, first_within, last_within};
 
-use lengths::{Point, vertex, vertices};
+use lengths::{Point, Polyline, vertex, vertices};
 use maths::{cos, radians};
 use reach::{is_beyond, limit};
 use sphere_lengths::{haversin, way};
 
 // What the distance from the stop to vertex k is the way of. c is the cosine of the stop's latitude.
-pub fn aside(lat: &[f64], lon: &[f64], stop: Point, c: f64, k: usize) -> f64
-    requires k_in_bounds { k < length (line_of lat.now lon.now) }
+pub fn aside(line: Polyline, stop: Point, c: f64, k: usize) -> f64
+    requires k_in_bounds { k < length (line_of line.lat.now line.lon.now) }
     requires c_value { c ≡ cos_of (radians_of stop.lat) }
-    ensures { result ≡ aside_of stop (get_or (line_of lat.now lon.now) k nowhere) }
+    ensures { result ≡ aside_of stop (get_or (line_of line.entry.lat.now line.entry.lon.now) k nowhere) }
 {
-    let v = vertex(lat, lon, k);
+    let v = vertex(line, k);
     haversin(stop.lat, stop.lon, c, v.lat, v.lon)
 }
 
@@ -32,13 +32,13 @@ fn is_within(far: f64, most: f64, a: f64) -> bool
 }
 
 // The first vertex that is no farther than `most`.
-pub fn first_within(lat: &[f64], lon: &[f64], stop: Point, from: usize, most: f64) -> Option<usize>
-    ensures { result ≡ first_within most from (distances_of stop (drop from (line_of lat.now lon.now))) }
+pub fn first_within(line: Polyline, stop: Point, from: usize, most: f64) -> Option<usize>
+    ensures { result ≡ first_within most from (distances_of stop (drop from (line_of line.entry.lat.now line.entry.lon.now))) }
 {
     let c = cos(radians(stop.lat));
     let far = limit(most);
-    for k in from..vertices(lat, lon) {
-        if is_within(far, most, aside(lat, lon, stop, c, k)) {
+    for k in from..vertices(line) {
+        if is_within(far, most, aside(line, stop, c, k)) {
             return Some(k);
         }
     }
@@ -46,13 +46,13 @@ pub fn first_within(lat: &[f64], lon: &[f64], stop: Point, from: usize, most: f6
 }
 
 // The last.
-pub fn last_within(lat: &[f64], lon: &[f64], stop: Point, from: usize, most: f64) -> Option<usize>
-    ensures { result ≡ last_within most from (distances_of stop (drop from (line_of lat.now lon.now))) }
+pub fn last_within(line: Polyline, stop: Point, from: usize, most: f64) -> Option<usize>
+    ensures { result ≡ last_within most from (distances_of stop (drop from (line_of line.entry.lat.now line.entry.lon.now))) }
 {
     let c = cos(radians(stop.lat));
     let far = limit(most);
-    for k in (from..vertices(lat, lon)).rev() {
-        if is_within(far, most, aside(lat, lon, stop, c, k)) {
+    for k in (from..vertices(line)).rev() {
+        if is_within(far, most, aside(line, stop, c, k)) {
             return Some(k);
         }
     }

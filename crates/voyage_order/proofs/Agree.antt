@@ -1,4 +1,5 @@
 -- The place beside an estimate is the one its coordinates were drawn from. Assumes nothing.
+use Rattle.std.specs.Prelude.{Some, None}
 use Prim.Native.Nat.{ℕ, zero, suc, ◌+◌, ◌-◌, ◌<◌, ◌≤◌}
 use native.Mathlib.Omega.{arith}
 use mathlib.Core.Path.{◌≡◌, refl, sym, ap, ◌∙◌}
@@ -28,8 +29,6 @@ use Rattle.voyages.specs.Record.{at_stop, on_leg}
 use Rattle.voyages.specs.Voyage.{Leg, Approach, none, over, Pin, unplaced, pinned, Voyage}
 use Rattle.voyages.specs.Outcome.{walk_leg, at_call, under_way_at, approaching, towards_at, at_turn, at_pin, outcome_at}
 use Rattle.voyage_order.specs.Position.{leg_numbered, leg_position, call_position, position_in}
-use Rattle.voyages.specs.declared.record.Outcome.{Outcome}
-use Rattle.voyages.specs.declared.record.Outcome.TheVariants.{At as Placed, Silence}
 use Rattle.voyage_order.specs.Agree.{Agreed, AgreedApproach, AgreedLegs, Agrees}
 
 -- ---- the leg of a walked place is the one that was walked
@@ -52,7 +51,7 @@ walk_leg_lem v k leg f = go (le f nought) (le one f)
 
 module _ (v : Voyage) (agreed : AgreedLegs v) where
   -- on a leg
-  on_leg_lem : (clock k : ℕ) → k + 1 < length v.arrs → Agrees v (under_way_at v clock k)
+  on_leg_lem : (clock k : ℕ) → k + 1 < length v.arrs → Agrees v (Some (under_way_at v clock k))
   unfolding under_way_at
   on_leg_lem clock k l =
       let f = leg_fraction clock (time_at v.deps k) (time_at v.arrs (k + 1)) in
@@ -60,25 +59,25 @@ module _ (v : Voyage) (agreed : AgreedLegs v) where
 
   -- ---- with a call or more
   module _ (some : eqb (length v.arrs) 0 ≡ false) where
-    at_call_lem : (k : ℕ) (status : Status) → Agrees v (at_call v k status)
+    at_call_lem : (k : ℕ) (status : Status) → Agrees v (Some (at_call v k status))
     unfolding at_stop
     at_call_lem k status = rw some (ap v.position (omega arith))
 
-    on_approach : (clock : ℕ) (a : Approach) → v.approach ≡ a → AgreedApproach a → Agrees v (approaching v clock a)
+    on_approach : (clock : ℕ) (a : Approach) → v.approach ≡ a → AgreedApproach a → Agrees v (Some (approaching v clock a))
     on_approach clock none e o = at_call_lem 0 _
     on_approach clock (over leg run) e o =
         let f = approach_fraction clock (time_at v.arrs 0) run in
         o f (approach_fraction-fits clock (time_at v.arrs 0) run) ∙ sym (walk_leg_lem v 1 leg f ∙ rw e refl)
 
-    towards : (clock : ℕ) → Agrees v (towards_at v clock)
+    towards : (clock : ℕ) → Agrees v (Some (towards_at v clock))
     unfolding towards_at
     towards clock = go (ltb (time_at v.deps 0) clock)
       where
-        go : (b : Bool) → Agrees v (cond b (at_call v 0 InTransitTo) (approaching v clock v.approach))
+        go : (b : Bool) → Agrees v (Some (cond b (at_call v 0 InTransitTo) (approaching v clock v.approach)))
         go true = at_call_lem 0 _
         go false = on_approach clock v.approach refl agreed.first
 
-    turned : (clock : ℕ) (turn : Turn) → Says clock v.arrs v.deps turn → Agrees v (at_turn v clock turn)
+    turned : (clock : ℕ) (turn : Turn) → Says clock v.arrs v.deps turn → Agrees v (Some (at_turn v clock turn))
     turned clock (At k) s = at_call_lem k _
     turned clock (Between k) s = on_leg_lem clock k s.0
     turned clock Towards s = towards clock
@@ -95,7 +94,7 @@ module _ (v : Voyage) (agreed : AgreedLegs v) where
   unfolding outcome_at
   voyage_agrees clock = go v.cancelled (eqb (length v.arrs) 0) refl
     where
-      go : (x y : Bool) → eqb (length v.arrs) 0 ≡ y → Agrees v (cond x Silence (cond y (at_pin v.pin) (at_turn v clock (turn_of clock v.arrs v.deps))))
+      go : (x y : Bool) → eqb (length v.arrs) 0 ≡ y → Agrees v (cond x None (cond y (at_pin v.pin) (Some (at_turn v clock (turn_of clock v.arrs v.deps)))))
       go true y e = tt
       go false true e = at_pin_lem e v.pin refl
       go false false e = turned e clock (turn_of clock v.arrs v.deps) (turn_says clock v.arrs v.deps)

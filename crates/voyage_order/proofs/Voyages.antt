@@ -1,4 +1,5 @@
 -- The outcomes of a voyage at two clocks: the later is not astern of the earlier. Assumes nothing.
+use Rattle.std.specs.Prelude.{Some, None}
 use Prim.Native.Nat.{ℕ, zero, suc, ◌+◌, ◌-◌, ◌*◌, ◌<◌, ◌≤◌, ◌^◌}
 use native.Mathlib.Nat.{eq-or-lt_of_le}
 use native.Mathlib.Omega.{arith}
@@ -28,23 +29,23 @@ use Rattle.timeline_order.proofs.Says.{SaysTimely, arrivals_mono, departures_mon
 use Rattle.voyages.specs.Record.{at_stop, on_leg}
 use Rattle.voyages.specs.Voyage.{Leg, Approach, none, over, Pin, unplaced, pinned, Voyage}
 use Rattle.voyages.specs.Outcome.{walk_leg, at_call, under_way_at, approaching, approach_status, towards_at, at_turn, at_pin, outcome_at}
-use Rattle.voyages.specs.declared.record.Outcome.{Outcome}
-use Rattle.voyages.specs.declared.record.Outcome.TheVariants.{At as Placed, Silence}
+use Rattle.voyages.specs.declared.record.Placed.{Placed}
 use Rattle.voyage_order.specs.Astern.{NotAstern, Ordered, OrderedApproach, Steady}
 use Rattle.leg_order.proofs.Turns.{walk_turn}
 
--- ---- turns of outcomes
+-- ---- turns of places
 
--- the outcome is an estimate whose place has this turn
-abbrev HasTurn : Outcome → ℕ → Type 0
-HasTurn (Placed e p) m = turn_of p ≡ m
-HasTurn Silence m = ⊥
+-- the second's place is no earlier than the first's
+abbrev Onward : Placed → Placed → Type 0
+Onward a b = NoEarlier a.place b.place
+
+-- the place has this turn
+abbrev HasTurn : Placed → ℕ → Type 0
+HasTurn a m = turn_of a.place ≡ m
 
 -- an earlier turn is no later a place
-strict : (o o' : Outcome) (m m' : ℕ) → HasTurn o m → HasTurn o' m' → m < m' → NotAstern o o'
-strict (Placed e p) (Placed e' q) m m' t t' h = inl (rw (t, t') h)
-strict (Placed e p) Silence m m' t t' h = t'
-strict Silence o' m m' t t' h = absurd t
+strict : (a b : Placed) (m n : ℕ) → HasTurn a m → HasTurn b n → m < n → Onward a b
+strict a b m n t t' h = inl (rw (t, t') h)
 
 turn_of_lem : (k : ℕ) (leg : Leg) (f : Float) → turn_of (walk_leg k leg f).place ≡ 2 * k - 1
 turn_of_lem k leg f = walk_turn k leg.shape leg.chain leg.from leg.to leg.path f
@@ -62,7 +63,7 @@ module _ (v : Voyage) where
   approach_turn clock leg run = turn_of_lem 1 leg (approach_fraction clock (time_at v.arrs 0) run)
 
   -- at a call, and at the same or a later one
-  calls : (k j : ℕ) → k ≤ j → (a b : Status) → NotAstern (at_call v k a) (at_call v j b)
+  calls : (k j : ℕ) → k ≤ j → (a b : Status) → Onward (at_call v k a) (at_call v j b)
   unfolding at_stop
   calls k j h a b = ⊎_elim (λ (e : k ≡ j). inr (omega arith, tt)) (λ l. inl (omega arith)) (eq-or-lt_of_le h)
 
@@ -91,7 +92,7 @@ module _ (v : Voyage) (steady : Steady v) (some : 1 ≤ length v.arrs) (first_bo
   ahead clock l = omega (arith, timely.calls 0 some)
 
   -- both on one leg
-  on_leg_lem : (k : ℕ) → k + 1 < length arrs → NotAstern (under_way_at v c k) (under_way_at v c' k)
+  on_leg_lem : (k : ℕ) → k + 1 < length arrs → Onward (under_way_at v c k) (under_way_at v c' k)
   unfolding under_way_at
   on_leg_lem k l =
       steady.legs k l (leg_fraction c (time_at deps k) (time_at arrs (k + 1))) (leg_fraction c' (time_at deps k) (time_at arrs (k + 1)))
@@ -99,23 +100,23 @@ module _ (v : Voyage) (steady : Steady v) (some : 1 ≤ length v.arrs) (first_bo
       (leg_fraction_order c c' (time_at deps k) (time_at arrs (k + 1)) clock_bound h)
 
   -- both towards the first call
-  on_approach : (a : Approach) → OrderedApproach a → NotAstern (approaching v c a) (approaching v c' a)
+  on_approach : (a : Approach) → OrderedApproach a → Onward (approaching v c a) (approaching v c' a)
   on_approach none o = calls v 0 0 (omega arith) IncomingAt IncomingAt
   on_approach (over leg run) o =
       o (approach_fraction c (time_at arrs 0) run) (approach_fraction c' (time_at arrs 0) run) (approach_fraction-fits c (time_at arrs 0) run)
       (approach_fraction-fits c' (time_at arrs 0) run) (approach_fraction_order c c' (time_at arrs 0) run first_bound h)
 
   -- towards the first call, and at a call or on a leg after it
-  approach_call : (a : Approach) (k : ℕ) (status : Status) → NotAstern (approaching v c a) (at_call v k status)
+  approach_call : (a : Approach) (k : ℕ) (status : Status) → Onward (approaching v c a) (at_call v k status)
   approach_call none k status = calls v 0 k (omega arith) IncomingAt status
   approach_call (over leg run) k status = strict (approaching v c (over leg run)) (at_call v k status) 1 (2 * suc k) (approach_turn v c leg run) (call_turn v k status) (omega arith)
 
-  approach_leg : (a : Approach) (k : ℕ) → NotAstern (approaching v c a) (under_way_at v c' k)
+  approach_leg : (a : Approach) (k : ℕ) → Onward (approaching v c a) (under_way_at v c' k)
   approach_leg none k = strict (at_call v 0 IncomingAt) (under_way_at v c' k) 2 (2 * suc (suc k) - 1) (call_turn v 0 IncomingAt) (leg_turn v c' k) (omega arith)
   approach_leg (over leg run) k =
       strict (approaching v c (over leg run)) (under_way_at v c' k) 1 (2 * suc (suc k) - 1) (approach_turn v c leg run) (leg_turn v c' k) (omega arith)
 
-  turns : (t t' : Turn) → SaysTimely c arrs deps t → SaysTimely c' arrs deps t' → NotAstern (at_turn v c t) (at_turn v c' t')
+  turns : (t t' : Turn) → SaysTimely c arrs deps t → SaysTimely c' arrs deps t' → Onward (at_turn v c t) (at_turn v c' t')
   turns (At k) (At j) s s' =
       ⊎_elim (λ l. calls v k j l StoppedAt StoppedAt) (λ (l : j < k). absurd (omega (arith, s.3 j l, s'.2))) (le_or_lt k j)
   turns (At k) (Between j) s s' =
@@ -152,12 +153,12 @@ module _ (v : Voyage) (steady : Steady v) (some : 1 ≤ length v.arrs) (first_bo
       ⊎_elim (λ l. rw (still v c (ahead c l)) (approach_leg v.approach j)) (λ l. absurd (omega (arith, s'.0, l.0))) (s some)
   turns Towards Towards s s' = ⊎_elim before after (s some)
     where
-      before : c < time_at arrs 0 → NotAstern (towards_at v c) (towards_at v c')
+      before : c < time_at arrs 0 → Onward (towards_at v c) (towards_at v c')
       before l =
           ⊎_elim (λ m. rw (still v c (ahead c l), still v c' (ahead c' m)) (on_approach v.approach steady.first))
           (λ m. rw (still v c (ahead c l), gone v c' m.1) (approach_call v.approach 0 InTransitTo)) (s' some)
 
-      after : (length arrs ≡ 1) × (time_at deps 0 < c) → NotAstern (towards_at v c) (towards_at v c')
+      after : (length arrs ≡ 1) × (time_at deps 0 < c) → Onward (towards_at v c) (towards_at v c')
       after l = rw (gone v c l.1, gone v c' (omega (arith, l.1))) (calls v 0 0 (omega arith) InTransitTo InTransitTo)
   turns Towards After s s' =
       ⊎_elim (λ l. rw (still v c (ahead c l)) (approach_call v.approach (length arrs - 1) StoppedAt)) (λ l. absurd (omega (arith, s'.0, l.0))) (s some)
@@ -168,7 +169,7 @@ module _ (v : Voyage) (steady : Steady v) (some : 1 ≤ length v.arrs) (first_bo
   turns After After s s' = calls v (length arrs - 1) (length arrs - 1) (omega arith) StoppedAt StoppedAt
 
   -- with a call or more
-  called : NotAstern (at_turn v c (clock_turn c arrs deps)) (at_turn v c' (clock_turn c' arrs deps))
+  called : Onward (at_turn v c (clock_turn c arrs deps)) (at_turn v c' (clock_turn c' arrs deps))
   called = turns (clock_turn c arrs deps) (clock_turn c' arrs deps) (turn_says_timely arrs deps timely c) (turn_says_timely arrs deps timely c')
 
 -- where she is pinned, or silent, she stays
@@ -187,8 +188,8 @@ voyage_not_astern v steady first_bound c c' h bound = go v.cancelled (eqb (lengt
     some (suc n) e = omega arith
 
     go : (x y : Bool) → (y ≡ false → 1 ≤ length v.arrs) →
-        NotAstern (cond x Silence (cond y (at_pin v.pin) (at_turn v c (clock_turn c v.arrs v.deps))))
-        (cond x Silence (cond y (at_pin v.pin) (at_turn v c' (clock_turn c' v.arrs v.deps))))
+        NotAstern (cond x None (cond y (at_pin v.pin) (Some (at_turn v c (clock_turn c v.arrs v.deps)))))
+        (cond x None (cond y (at_pin v.pin) (Some (at_turn v c' (clock_turn c' v.arrs v.deps)))))
     go true y f = tt
     go false true f = pinned_stays v v.pin
     go false false f = called v steady (f refl) first_bound c c' h bound

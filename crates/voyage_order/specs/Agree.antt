@@ -1,13 +1,12 @@
 -- What it is that a place and its coordinates agree, and where silence falls. Definitions only.
-use Rattle.std.specs.Prelude.{ℕ, suc, ◌+◌, ◌<◌, ◌≡◌, true, false, [], ◌⊎◌, T, Float, length}
+use Rattle.std.specs.Prelude.{ℕ, suc, ◌+◌, ◌<◌, ◌≡◌, true, false, [], ◌⊎◌, T, Float, length, Option, Some, None}
 use Rattle.std.specs.Float.{binary64}
 use Rattle.std.specs.Float.Ieee.{fits}
 use Rattle.leg_order.specs.Position.{coordinates}
 use Rattle.voyages.specs.Voyage.{Leg, Approach, none, over, unplaced, Voyage}
 use Rattle.voyages.specs.Outcome.{walk_leg}
 use Rattle.voyage_order.specs.Position.{leg_position, position_in}
-use Rattle.voyages.specs.declared.record.Outcome.{Outcome}
-use Rattle.voyages.specs.declared.record.Outcome.TheVariants.{At, Silence}
+use Rattle.voyages.specs.declared.record.Placed.{Placed}
 
 -- along leg k the coordinates are those of the place, at every fraction
 abbrev pub Agreed : ℕ → Leg → Type 0
@@ -23,9 +22,9 @@ pub record AgreedLegs (v : Voyage) : Type 0 where
   pub first : AgreedApproach v.approach
 
 -- the coordinates of an estimate are those of the place beside it
-abbrev pub Agrees : Voyage → Outcome → Type 0
-Agrees v (At e p) = ◌≡◌ (record { lat = e.lat; lon = e.lon }) (position_in v p)
-Agrees v Silence = Unit {0}
+abbrev pub Agrees : Voyage → Option Placed → Type 0
+Agrees v (Some a) = ◌≡◌ (record { lat = a.estimate.lat; lon = a.estimate.lon }) (position_in v a.place)
+Agrees v None = Unit {0}
 
 -- cancelled, or no call and nowhere to be pinned
 abbrev pub Silent : Voyage → Type 0

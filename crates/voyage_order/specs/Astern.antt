@@ -1,20 +1,19 @@
 -- What it is not to go astern, and what of a voyage gives it. Definitions only.
-use Rattle.std.specs.Prelude.{ℕ, suc, ◌+◌, ◌<◌, T, Float, length}
+use Rattle.std.specs.Prelude.{ℕ, suc, ◌+◌, ◌<◌, T, Float, length, Option, Some, None}
 use Rattle.std.specs.Float.Ieee.{le, fits}
 use Rattle.std.specs.Float.{binary64}
 use Rattle.leg_order.specs.Order.{NoEarlier}
 use Rattle.timeline_order.specs.Order.{Timely}
 use Rattle.voyages.specs.Voyage.{Leg, Approach, none, over, Voyage}
 use Rattle.voyages.specs.Outcome.{walk_leg}
-use Rattle.voyages.specs.declared.record.Outcome.{Outcome}
-use Rattle.voyages.specs.declared.record.Outcome.TheVariants.{At, Silence}
+use Rattle.voyages.specs.declared.record.Placed.{Placed}
 
 -- both are silent, or both are estimates and the second's place is no earlier than the first's
-abbrev pub NotAstern : Outcome → Outcome → Type 0
-NotAstern Silence Silence = Unit {0}
-NotAstern Silence (At e q) = ⊥
-NotAstern (At e p) Silence = ⊥
-NotAstern (At e p) (At e' q) = NoEarlier p q
+abbrev pub NotAstern : Option Placed → Option Placed → Type 0
+NotAstern None None = Unit {0}
+NotAstern None (Some b) = ⊥
+NotAstern (Some a) None = ⊥
+NotAstern (Some a) (Some b) = NoEarlier a.place b.place
 
 -- along leg k a larger fraction gives no earlier place
 abbrev pub Ordered : ℕ → Leg → Type 0

@@ -4,6 +4,6 @@
 // `outcome_at` in specs/; the code here makes the records, and `estimate` reads the tables.
 #![tactic(auto)]
 
-mod record; // the record, and what an estimate comes to
+mod record; // record.rt: the record, and the place beside it
 
-pub use record::{Estimate, Outcome, at_stop, on_leg};
+pub use record::{Estimate, Placed, at_stop, on_leg};

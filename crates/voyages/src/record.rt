@@ -1,4 +1,4 @@
-// The estimate's record, and what an estimate comes to.
+// The estimate's record, and the place beside it.
 ghost use Rattle.std.specs.Prelude.{◌≡◌};
 ghost use Rattle.voyages.specs.Record.{at_stop, on_leg};
 
@@ -11,10 +11,8 @@ use paths::Status;
 pub struct Estimate {
     pub lat: f64,
     pub lon: f64,
-    // in degrees; 0 where there is none
-    pub bearing: f64,
-    // whether there is a bearing
-    pub bears: bool,
+    // in degrees, where there is one
+    pub bearing: Option<f64>,
     pub status: Status,
     // the stop's row in the stops
     pub stop: usize,
@@ -22,43 +20,47 @@ pub struct Estimate {
     pub sequence: u32,
 }
 
+// An estimate, and the place that its coordinates are drawn from.
 #[derive(Clone, Copy)]
-pub enum Outcome {
-    // The estimate, and the place that its coordinates are drawn from.
-    At(Estimate, Place),
-    Silence,
+pub struct Placed {
+    pub estimate: Estimate,
+    pub place: Place,
 }
 
 // At a stop, which is this call; no bearing.
-pub fn at_stop(call: u32, at: Point, status: Status, stop: usize, sequence: u32) -> Outcome
+#[tactic(auto, unfolding(crate::specs::Record::at_stop))]
+pub fn at_stop(call: u32, at: Point, status: Status, stop: usize, sequence: u32) -> Placed
     ensures { result ≡ at_stop call at status stop sequence }
 {
     let estimate = Estimate {
         lat: at.lat,
         lon: at.lon,
-        bearing: 0.0,
-        bears: false,
+        bearing: None,
         status,
         stop,
         sequence,
     };
-    Outcome::At(estimate, Place::Call(call))
+    Placed {
+        estimate,
+        place: Place::Call(call),
+    }
 }
 
 // On a leg, to this stop.
-pub fn on_leg(walked: Walked, status: Status, stop: usize, sequence: u32) -> Outcome
+pub fn on_leg(walked: Walked, status: Status, stop: usize, sequence: u32) -> Placed
     ensures { result ≡ on_leg walked status stop sequence }
 {
     let drawn = walked.drawn;
-    let place = walked.place;
     let estimate = Estimate {
         lat: drawn.lat,
         lon: drawn.lon,
-        bearing: drawn.bearing,
-        bears: true,
+        bearing: Some(drawn.bearing),
         status,
         stop,
         sequence,
     };
-    Outcome::At(estimate, place)
+    Placed {
+        estimate,
+        place: walked.place,
+    }
 }

@@ -1,5 +1,5 @@
 -- Document 01's case of the Board, with any clock, as it may be lent: two stops on the equator, a degree apart, and a call at each, at 100 and 400. Definitions only.
-use Rattle.std.specs.Prelude.{ℕ, ◌≡◌, true, false, List, [], ◌∷◌, pos, negsuc, Float}
+use Rattle.std.specs.Prelude.{ℕ, ◌≡◌, false, List, [], ◌∷◌, pos, negsuc, Float, Option, Some, None}
 use Rattle.std.specs.Float.{fin}
 use Rattle.floats.specs.Number.{nought, one}
 use Rattle.ids.specs.declared.pool.IdColumn.{IdColumn}
@@ -11,8 +11,7 @@ use Rattle.ways.specs.declared.way.Way.TheVariants.{With}
 use Rattle.paths.specs.declared.path.Line.TheVariants.{Straight}
 use Rattle.legs.specs.declared.place.Place.TheVariants.{Call, Stretch}
 use Rattle.paths.specs.declared.status.Status.TheVariants.{StoppedAt, InTransitTo}
-use Rattle.voyages.specs.declared.record.Outcome.{Outcome}
-use Rattle.voyages.specs.declared.record.Outcome.TheVariants.{At}
+use Rattle.voyages.specs.declared.record.Placed.{Placed}
 use Rattle.estimate.specs.Answers.{estimate_of}
 use Rattle.astern.specs.Clocks.{Hypotheses}
 
@@ -94,12 +93,22 @@ abbrev pub east : Float
 east = fin false 45 (pos 1)
 
 -- at 100 she is stopped at the first call
-abbrev pub at_hundred : Outcome
-at_hundred = At (record { lat = nought; lon = nought; bearing = nought; bears = false; status = StoppedAt; stop = 0; sequence = 1 }) (Call 1)
+abbrev pub at_hundred : Option Placed
+at_hundred =
+    Some
+    (record {
+      estimate = record { lat = nought; lon = nought; bearing = None; status = StoppedAt; stop = 0; sequence = 1 };
+      place = Call 1;
+    })
 
 -- at 250 she is half way along the straight line to the second, in transit to it and bearing east: the line that document 01 has the Board print
-abbrev pub at_two_hundred_fifty : Outcome
-at_two_hundred_fifty = At (record { lat = nought; lon = half; bearing = east; bears = true; status = InTransitTo; stop = 1; sequence = 2 }) (Stretch 2 Straight With 0 half)
+abbrev pub at_two_hundred_fifty : Option Placed
+at_two_hundred_fifty =
+    Some
+    (record {
+      estimate = record { lat = nought; lon = half; bearing = Some east; status = InTransitTo; stop = 1; sequence = 2 };
+      place = Stretch 2 Straight With 0 half;
+    })
 
 -- The case meets every hypothesis of demand 3, and its places at the two clocks differ.
 pub record Witness : Type 0 where

@@ -2,7 +2,8 @@
 ghost use Rattle.std.specs.Prelude.{◌≡◌, ◌<◌, ◌≤◌, ◌↔◌, IsTrue, length, slice_set};
 
 use crate::layout::pool;
-use tables::{Lent, cut};
+use ids::Lent;
+use tables::cut;
 
 /// The pools that a test program fills.
 #[derive(Drop)]

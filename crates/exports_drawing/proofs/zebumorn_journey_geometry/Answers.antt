@@ -4,7 +4,8 @@ use mathlib.Core.Path.{ap, ◌∙◌}
 use Rattle.refusals.specs.Answer.{number_of, value_or}
 use Rattle.exports_drawing.proofs.zebumorn_journey_geometry.Goals as goal
 
-pub returns : goal.returns
-returns c =
-    let t = c.told_drawing.ensures in
-    let d = c.journey_geometry-drawing.ensures in record { value = t.value ∙ ap number_of d.result_value; points_after = t.points_after ∙ ap (value_or _) d.result_value; lat_after = d.lat_after; lon_after = d.lon_after }
+pub returns-clause-value : goal.returns-clause-value
+returns-clause-value c = c.told.ensures.value ∙ ap number_of c.journey_geometry.ensures.result_value
+
+pub returns-clause-points_after : goal.returns-clause-points_after
+returns-clause-points_after c = c.told.ensures.out_after ∙ ap (value_or _) c.journey_geometry.ensures.result_value

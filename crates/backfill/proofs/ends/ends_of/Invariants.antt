@@ -9,5 +9,5 @@ use Rattle.backfill.proofs.ends.ends_of.Given as goal
 
 abbrev pub invariant-loop-k : goal.invariant-loop-k
 invariant-loop-k l =
-    let position = row_position l.bytes l.words l.reals l.stops l.calls in
+    let position = row_position l.lent.bytes.now l.lent.words.now l.lent.reals.now l.stops l.calls in
     ends_of (samples_in (positions_from position l.first l.n) (rows_of l.dist l.measured)) ≡ added position l.first l.n l.dist l.measured l.ends l.k

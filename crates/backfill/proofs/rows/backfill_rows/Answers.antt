@@ -20,4 +20,4 @@ pub fill-requires : goal.fill-requires
 fill-requires c = record { nonzero = omega (arith, c.vertices.ensures); n_value = c.requires.n_value; n_value_2 = c.requires.n_value_2 }
 
 pub returns : goal.returns
-returns c = let e = some_missing (line_of c.args.lat.now c.args.lon.now) (positions_from (row_position c.args.bytes.now c.args.words.now c.args.reals.now c.args.stops c.args.calls) c.args.first c.args.n) c.args.dist.now c.args.measured.now (sym c.requires.n_value ∙ c.requires.n_value_2) (omega (arith, c.vertices.ensures, c.if-vertices-lt2.false)) c.unit_of-unit.ensures in record { dist_after = c.fill.ensures.dist_after ∙ ap dists_in e; measured_after = c.fill.ensures.measured_after ∙ ap marks_in e }
+returns c = let e = some_missing (line_of c.args.line.lat.now c.args.line.lon.now) (positions_from (row_position c.args.lent.now.bytes.now c.args.lent.now.words.now c.args.lent.now.reals.now c.args.stops c.args.calls) c.args.first c.args.n) c.args.dist.now c.args.measured.now (sym c.requires.n_value ∙ c.requires.n_value_2) (omega (arith, c.vertices.ensures, c.if-vertices-lt2.false)) c.unit_of-unit.ensures in record { dist_after = c.fill.ensures.dist_after ∙ ap dists_in e; measured_after = c.fill.ensures.measured_after ∙ ap marks_in e }

@@ -4,4 +4,4 @@ use Rattle.best_rows.specs.Serving.{best_below, score_of}
 use Rattle.best_rows.proofs.best.best_row.Given as goal
 
 abbrev pub invariant-loop-k : goal.invariant-loop-k
-invariant-loop-k l = l.best ≡ best_below (score_of l.bytes l.u l.words) l.k
+invariant-loop-k l = l.best ≡ best_below (score_of l.lent.bytes.now l.u l.lent.words.now) l.k

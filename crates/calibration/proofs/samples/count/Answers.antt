@@ -7,4 +7,4 @@ use Rattle.calibration.proofs.samples.count.Goals as goal
 pub returns : goal.returns
 returns c =
     let a = c.args in
-    omega (arith, c.vertices.ensures, sample_count (line_of a.lat.now a.lon.now) a.dist.now)
+    omega (arith, c.vertices.ensures, sample_count (line_of a.line.lat.now a.line.lon.now) a.dist.now)

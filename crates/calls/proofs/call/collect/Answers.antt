@@ -22,7 +22,7 @@ pub bounds-rows-n : goal.bounds-rows-n
 bounds-rows-n c = let h = c.loop-k.invariant in omega (arith, h.rows_long, collect_few _ _ _ _ h, c.requires.n_in_bounds)
 
 pub overflow_cast-stops : goal.overflow_cast-stops
-overflow_cast-stops c = let a = c.args in record { fits = stop_fits a.bytes.now a.words.now a.v (λ i. omega (arith, c.shared_slice_known-2-1.given i)) _ _ (sym c.call_stop.ensures ∙ c.in-Some.is) }
+overflow_cast-stops c = let a = c.args in record { fits = stop_fits a.lent.now.bytes.now a.lent.now.words.now a.v c.words_fit.ensures _ _ (sym c.call_stop.ensures ∙ c.in-Some.is) }
 
 pub offset_bounds-stops-n : goal.offset_bounds-stops-n
 offset_bounds-stops-n c = omega (arith, collect_few _ _ _ _ c.loop-k.invariant)

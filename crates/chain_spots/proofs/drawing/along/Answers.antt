@@ -4,9 +4,6 @@ use Rattle.chain_spots.proofs.Turns.{alone, at_start}
 use Rattle.chain_spots.proofs.drawing.along.Goals as goal
 use Rattle.chain_spots.proofs.drawing.along.Goals.{then-part, else-part}
 
-pub inside-requires : goal.inside-requires
-inside-requires c = record { marked = c.requires.marked; n_value = c.requires.n_value }
-
 pub returns-then-f : goal.returns-then-f
 unfolding of_bits
 returns-then-f c =

@@ -2,18 +2,6 @@
 use borrow.Author.Rules.{rules}
 use Rattle.chain_spots.proofs.drawing.drawn.Goals as goal
 
-pub first_drawn-requires : goal.first_drawn-requires
-first_drawn-requires c = record { marked = c.requires.marked; n_value = c.requires.n_value }
-
-pub stretch_drawn-requires : goal.stretch_drawn-requires
-stretch_drawn-requires c = record { marked = c.requires.marked; n_value = c.requires.n_value }
-
-pub straight_drawn-requires : goal.straight_drawn-requires
-straight_drawn-requires c = record { marked = c.requires.marked; n_value = c.requires.n_value }
-
-pub last_drawn-requires : goal.last_drawn-requires
-last_drawn-requires c = record { marked = c.requires.marked; n_value = c.requires.n_value }
-
 pub returns-in-First : goal.returns-in-First
 returns-in-First c = rw (c.in-First.is, c.first_drawn.ensures)
 

@@ -3,11 +3,8 @@ use lib.Ieee.{of_bits}
 use Rattle.chain_spots.proofs.Turns.{first_two, first_alone}
 use Rattle.chain_spots.proofs.drawing.first_drawn.Goals as goal
 
-pub seek-here-requires : goal.seek-here-requires
-seek-here-requires c = record { marked = c.requires.marked; n_value = c.requires.n_value }
-
 pub onward-there-requires : goal.onward-there-requires
-onward-there-requires c = record { marked = c.requires.marked; n_value = c.requires.n_value; stands = c.seek-here.ensures }
+onward-there-requires c = c.seek-here.ensures
 
 pub returns-then-part : goal.returns-then-part
 returns-then-part c = rw (c.on_two.ensures, c.seek-here.ensures.is, c.onward-there.ensures.is) (first_two _ _ c.if-part.true)

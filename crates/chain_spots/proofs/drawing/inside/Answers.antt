@@ -7,9 +7,6 @@ pub returns-then-route : goal.returns-then-route
 unfolding inside_of of_bits of_int
 returns-then-route c = rw c.if-route.true
 
-pub stretch_of-requires : goal.stretch_of-requires
-stretch_of-requires c = record { marked = c.requires.marked; n_value = c.requires.n_value }
-
 pub returns : goal.returns
 unfolding inside_of of_bits of_int
 returns c = rw c.if-route.false c.stretch_of.ensures

@@ -2,12 +2,6 @@
 use Rattle.stretches.specs.Drawing.{last_of}
 use Rattle.chain_spots.proofs.drawing.last_drawn.Goals as goal
 
-pub seek-here-requires : goal.seek-here-requires
-seek-here-requires c = record { marked = c.requires.marked; n_value = c.requires.n_value }
-
-pub seek-there-requires : goal.seek-there-requires
-seek-there-requires c = record { marked = c.requires.marked; n_value = c.requires.n_value }
-
 pub returns : goal.returns
 unfolding last_of
 returns c = rw (c.on_two.ensures, c.seek-here.ensures.is, c.seek-there.ensures.is, c.saturating_sub.ensures)

@@ -6,15 +6,12 @@ use Rattle.chain_vertices.specs.Vertices.{Stands}
 use Rattle.chain_spots.proofs.Turns.{stretch_is}
 use Rattle.chain_spots.proofs.passes.length_of.Goals as goal
 
-pub seek-here-requires : goal.seek-here-requires
-seek-here-requires c = record { marked = c.requires.marked; n_value = c.requires.n_value }
-
 pub loop-k-init : goal.loop-k-init
 unfolding of_bits
 loop-k-init c = record { within = omega arith; stands = c.seek-here.ensures; sum = sym (no_sum _ c.args.part.first) }
 
 pub onward-there-requires : goal.onward-there-requires
-onward-there-requires c = record { marked = c.requires.marked; n_value = c.requires.n_value; stands = c.loop-k.invariant.stands }
+onward-there-requires c = c.loop-k.invariant.stands
 
 pub loop-k-preserved : goal.loop-k-preserved
 loop-k-preserved c =

@@ -4,15 +4,14 @@ use Rattle.line_parts.specs.Part.{length_from}
 use Rattle.first_stretch.specs.Search.{stretch_at}
 use Rattle.first_stretch.proofs.Turns.{met_from}
 use Rattle.routes.specs.Route.{nano}
-use Rattle.chain_lines.specs.Chain.{stop_of, line_from}
-use Rattle.chain_vertices.specs.Vertices.{Stands}
+use Rattle.chain_vertices.specs.Walk.{points_of, StandsAt}
 use Rattle.chain_spots.proofs.passes.stretch_of.Given as goal
 
 abbrev pub invariant-loop-k : goal.invariant-loop-k
 invariant-loop-k l =
-    let line = line_from (stop_of l.bytes l.words l.reals l.s l.c l.chain) l.chain in
+    let line = points_of l.chain in
     record {
-      stands : Stands (stop_of l.bytes l.words l.reals l.s l.c l.chain) l.chain l.here l.k;
+      stands : StandsAt l.chain l.here l.k;
       sum : l.sum ≡ length_from line l.fn.part.first (l.k - l.fn.part.first);
       met : stretch_at line l.fn.part nano l.target ≡ met_from line l.fn.part nano l.target l.k;
     }

@@ -20,7 +20,7 @@ pub after-last-requires : goal.after-last-requires
 after-last-requires c =
     let a = c.args in
     let l = c.loop-i in
-    omega (arith, ap (λ (x : Last). x.kept) l.invariant.last, at_most (stop_of a.bytes.now a.words.now a.reals.now a.s a.c a.chain) l.i)
+    omega (arith, ap (λ (x : Last). x.kept) l.invariant.last, at_most (stop_of a.lent.now.bytes.now a.lent.now.words.now a.lent.now.reals.now a.s a.c a.chain) l.i)
 
 pub loop-i-preserved : goal.loop-i-preserved
 loop-i-preserved c =
@@ -40,5 +40,5 @@ returns c =
     let a = c.args in
     let l = c.loop-i in
     let e : l.i ≡ a.chain.count = omega arith in
-    let kept = kept_below (stop_of a.bytes.now a.words.now a.reals.now a.s a.c a.chain) in
+    let kept = kept_below (stop_of a.lent.now.bytes.now a.lent.now.words.now a.lent.now.reals.now a.s a.c a.chain) in
     record { value = ap (λ (x : Last). x.kept) l.invariant.last ∙ ap (λ (n : ℕ). length (kept n)) e; marked = λ j h. l.invariant.begun.right j (omega arith) }

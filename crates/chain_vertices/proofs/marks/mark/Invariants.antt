@@ -8,6 +8,6 @@ use Rattle.chain_vertices.proofs.marks.mark.Given as goal
 
 abbrev pub invariant-loop-i : goal.invariant-loop-i
 invariant-loop-i l = record {
-  begun : Begun (row_kept (stop_of l.bytes l.words l.reals l.s l.c l.chain)) (length l.initial.marks) l.marks l.i;
-  last : l.last ≡ last_of (kept_below (stop_of l.bytes l.words l.reals l.s l.c l.chain) l.i);
+  begun : Begun (row_kept (stop_of l.lent.bytes.now l.lent.words.now l.lent.reals.now l.s l.c l.chain)) (length l.initial.marks) l.marks l.i;
+  last : l.last ≡ last_of (kept_below (stop_of l.lent.bytes.now l.lent.words.now l.lent.reals.now l.s l.c l.chain) l.i);
 }

@@ -3,7 +3,7 @@ use borrow.Author.Rules.{rules}
 use Prim.Native.Nat.{ℕ}
 use native.Mathlib.Omega.{arith}
 use lib.ListN.{length-replicate}
-use Rattle.chains.proofs.Whole.{zeros}
+use Rattle.chains.proofs.Zeros.{zeros}
 use Rattle.chains.proofs.questions.chain_route.Goals as goal
 
 pub route_in-requires : goal.route_in-requires

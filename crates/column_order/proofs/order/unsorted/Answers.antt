@@ -7,4 +7,4 @@ pub returns : goal.returns
 unfolding out_of_order_at
 returns c =
     let a = c.args in
-    c.some_row.ensures (out_of_order_at a.bytes.now a.words.now a.key) (λ k l b p. search rules) ∙ ap (some _) c.saturating_sub.ensures
+    c.some_row.ensures (out_of_order_at a.lent.now.bytes.now a.lent.now.words.now a.key) (λ k l b p. search rules) ∙ ap (some _) c.saturating_sub.ensures

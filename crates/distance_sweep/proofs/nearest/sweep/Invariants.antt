@@ -11,7 +11,7 @@ use Rattle.distance_sweep.proofs.nearest.sweep.Given as goal
 abbrev pub invariant-loop-k : goal.invariant-loop-k
 invariant-loop-k l = record {
   within : l.k - l.at ≤ l.n - l.at;
-  seen : Seen (distance_of l.stop (line_of l.lat l.lon)) l.at l.k l.near;
-  least : least_in (distances_of l.stop (drop l.at (line_of l.lat l.lon))) ≡ foldl least_of l.near.best (distances_of l.stop (drop l.k (line_of l.lat l.lon)));
+  seen : Seen (distance_of l.stop (line_of l.line.lat.now l.line.lon.now)) l.at l.k l.near;
+  least : least_in (distances_of l.stop (drop l.at (line_of l.line.lat.now l.line.lon.now))) ≡ foldl least_of l.near.best (distances_of l.stop (drop l.k (line_of l.line.lat.now l.line.lon.now)));
   beyond : Beyond (bound_of l.near) l.near.limit;
 }

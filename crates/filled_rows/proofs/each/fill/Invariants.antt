@@ -6,4 +6,4 @@ use Rattle.filled_rows.proofs.each.fill.Given as goal
 
 abbrev pub invariant-loop-k : goal.invariant-loop-k
 invariant-loop-k l =
-    Filled (line_of l.lat l.lon) l.unit (row_position l.bytes l.words l.reals l.stops l.calls) l.first l.n l.initial.dist l.initial.measured l.dist l.measured l.at l.sum l.k
+    Filled (line_of l.line.lat.now l.line.lon.now) l.unit (row_position l.lent.bytes.now l.lent.words.now l.lent.reals.now l.stops l.calls) l.first l.n l.initial.dist l.initial.measured l.dist l.measured l.at l.sum l.k

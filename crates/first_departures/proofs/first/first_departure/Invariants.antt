@@ -4,4 +4,4 @@ use Rattle.first_departures.specs.Firsts.{first_below}
 use Rattle.first_departures.proofs.first.first_departure.Given as goal
 
 abbrev pub invariant-loop-k : goal.invariant-loop-k
-invariant-loop-k l = l.first ≡ first_below l.bytes l.u l.times l.k
+invariant-loop-k l = l.first ≡ first_below l.lent.bytes.now l.u l.lent.times.now l.k

@@ -8,6 +8,6 @@ use Rattle.first_stretch.proofs.search.stretch_at.Given as goal
 
 abbrev pub invariant-loop-k : goal.invariant-loop-k
 invariant-loop-k l = record {
-  sum : l.sum ≡ length_from (line_of l.lat l.lon) l.fn.part.first (l.k - l.fn.part.first);
-  met : stretch_at (line_of l.lat l.lon) l.fn.part l.tolerance l.target ≡ met_from (line_of l.lat l.lon) l.fn.part l.tolerance l.target l.k;
+  sum : l.sum ≡ length_from (line_of l.line.lat.now l.line.lon.now) l.fn.part.first (l.k - l.fn.part.first);
+  met : stretch_at (line_of l.line.lat.now l.line.lon.now) l.fn.part l.tolerance l.target ≡ met_from (line_of l.line.lat.now l.line.lon.now) l.fn.part l.tolerance l.target l.k;
 }

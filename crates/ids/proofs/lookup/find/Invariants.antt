@@ -10,7 +10,7 @@ use Rattle.ids.proofs.Rows.{Bracket, down, hit, miss, start, up}
 use Rattle.ids.proofs.lookup.find.Given as goal
 
 abbrev pub invariant-loop-lo : goal.invariant-loop-lo
-invariant-loop-lo l = Bracket (id_of l.bytes l.words l.col) l.col.starts.n l.key l.lo l.hi
+invariant-loop-lo l = Bracket (id_of l.lent.bytes.now l.lent.words.now l.col) l.col.starts.n l.key l.lo l.hi
 
 abbrev pub decreases-loop-lo : goal.decreases-loop-lo
 decreases-loop-lo l = l.hi - l.lo

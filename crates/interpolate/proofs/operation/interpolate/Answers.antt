@@ -1,17 +1,13 @@
-use mathlib.Core.Path.{◌∙◌}
-use borrow.Author.Rules.{rules}
-use Rattle.answers.proofs.Told.{told, denied}
+-- `interpolate::operation::interpolate` meets its contract.
+use mathlib.Core.Path.{sym}
+use Rattle.answers.proofs.Told.{told, handed_on}
 use Rattle.interpolate.specs.Answers.{interpolation_of}
 use Rattle.interpolate.proofs.operation.interpolate.Goals as goal
 
-pub returns-then-refusal-ne0 : goal.returns-then-refusal-ne0
+pub returns-in_err-check_interpolation : goal.returns-in_err-check_interpolation
 unfolding interpolation_of
-returns-then-refusal-ne0 c = rw (← c.chart.ensures, ← (c.number_or_zero-refusal.ensures ∙ c.check_interpolation.ensures)) (denied _ _ c.if-refusal-ne0.true)
+returns-in_err-check_interpolation c = handed_on _ _ _ _ c.from_residual.ensures.1 (rw c.chart.ensures at c.in_err-check_interpolation.ensures)
 
-pub returns-in-Some : goal.returns-in-Some
+pub returns : goal.returns
 unfolding interpolation_of
-returns-in-Some c = rw (← c.chart.ensures, ← (c.number_or_zero-refusal.ensures ∙ c.check_interpolation.ensures), ← c.lent.ensures, c.in-Some.is) (told _ _ c.if-refusal-ne0.false)
-
-pub returns-in-None : goal.returns-in-None
-unfolding interpolation_of
-returns-in-None c = rw (← c.chart.ensures, ← (c.number_or_zero-refusal.ensures ∙ c.check_interpolation.ensures), ← c.lent.ensures, c.in-None.is) (told _ _ c.if-refusal-ne0.false)
+returns c = rw (← c.lent.ensures) (told _ _ (sym (rw c.chart.ensures at c.in_ok-check_interpolation.ensures)))

@@ -10,18 +10,18 @@ draw_points-requires c = omega (arith, c.cell-n.type_inv, c.requires)
 
 pub returns-then-bit-eq0 : goal.returns-then-bit-eq0
 returns-then-bit-eq0 c =
-    let e = c.draw_points.ensures in
-    let own = transit c.args.bytes.now c.args.words.now c.args.reals.now c.args.j c.args.leg (sym c.bit.ensures ∙ c.if-bit-eq0.true) in record { at_after = e ∙ rw (← own, c.cell-first.ensures, c.cell-n.ensures); at_bound = omega (arith, rows_on _ _ _ _ e, c.cell-n.type_inv) }
+    let e = c.draw_points.ensures.sheet_after in
+    let own = transit c.args.lent.now.bytes.now c.args.lent.now.words.now c.args.lent.now.reals.now c.args.j c.args.leg (sym c.bit.ensures ∙ c.if-bit-eq0.true) in record { sheet_after = e ∙ rw (← own, c.cell-first.ensures, c.cell-n.ensures); at_bound = omega (arith, rows_on _ _ _ _ e, c.cell-n.type_inv); same = c.draw_points.ensures.same }
 
 pub returns-then-n-lt2 : goal.returns-then-n-lt2
 returns-then-n-lt2 c =
-    let e = c.draw_ends.ensures in
-    let ends = short_walk c.args.bytes.now c.args.words.now c.args.reals.now c.args.j c.args.leg (λ z. c.if-bit-eq0.false (c.bit.ensures ∙ z)) (rw c.cell-n.ensures at c.if-n-lt2.true) in record { at_after = e ∙ rw (← ends); at_bound = omega (arith, two_on _ _ _ e) }
+    let e = c.draw_ends.ensures.sheet_after in
+    let ends = short_walk c.args.lent.now.bytes.now c.args.lent.now.words.now c.args.lent.now.reals.now c.args.j c.args.leg (λ z. c.if-bit-eq0.false (c.bit.ensures ∙ z)) (rw c.cell-n.ensures at c.if-n-lt2.true) in record { sheet_after = e ∙ rw (← ends); at_bound = omega (arith, two_on _ _ _ e); same = c.draw_ends.ensures.same }
 
 pub draw_points-requires-else-n-lt2 : goal.draw_points-requires-else-n-lt2
 draw_points-requires-else-n-lt2 c = omega (arith, c.cell-n.type_inv, c.requires)
 
 pub returns-else-n-lt2 : goal.returns-else-n-lt2
 returns-else-n-lt2 c =
-    let e = c.draw_points-else-n-lt2.ensures in
-    let own = long_walk c.args.bytes.now c.args.words.now c.args.reals.now c.args.j c.args.leg (λ z. c.if-bit-eq0.false (c.bit.ensures ∙ z)) (rw c.cell-n.ensures at c.if-n-lt2.false) in record { at_after = e ∙ rw (← own, c.cell-first.ensures, c.cell-n.ensures); at_bound = omega (arith, rows_on _ _ _ _ e, c.cell-n.type_inv) }
+    let e = c.draw_points-else-n-lt2.ensures.sheet_after in
+    let own = long_walk c.args.lent.now.bytes.now c.args.lent.now.words.now c.args.lent.now.reals.now c.args.j c.args.leg (λ z. c.if-bit-eq0.false (c.bit.ensures ∙ z)) (rw c.cell-n.ensures at c.if-n-lt2.false) in record { sheet_after = e ∙ rw (← own, c.cell-first.ensures, c.cell-n.ensures); at_bound = omega (arith, rows_on _ _ _ _ e, c.cell-n.type_inv); same = c.draw_points-else-n-lt2.ensures.same }

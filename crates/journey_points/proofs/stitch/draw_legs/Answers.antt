@@ -1,7 +1,7 @@
 use borrow.Author.Rules.{rules}
 use Prim.Native.Nat.{◌-◌, ◌≤◌}
 use native.Mathlib.Omega.{arith}
-use Rattle.point_columns.specs.Sheet.{sheet}
+use mathlib.Core.Path.{refl, ◌∙◌}
 use Rattle.journey_points.specs.Journey.{leg_positions, journey_points}
 use Rattle.journey_points.proofs.Stitching.{Stitching, begin, next_leg, over, finished}
 use Rattle.journey_points.proofs.stitch.draw_legs.Goals as goal
@@ -10,22 +10,17 @@ pub overflow_cast-legs : goal.overflow_cast-legs
 overflow_cast-legs c = search (rules, c.walk-1.given)
 
 pub loop-k-init : goal.loop-k-init
-loop-k-init c = (search (rules, c.walk-1.given), begin _ _ _)
+loop-k-init c = (search (rules, c.walk-1.given), (refl, refl), begin _ _ _)
 
 pub draw_leg-drawn-requires : goal.draw_leg-drawn-requires
-draw_leg-drawn-requires c = omega (arith, c.loop-k.invariant.0, c.loop-k.invariant.1.on.few, c.loop-k-test.true)
+draw_leg-drawn-requires c = omega (arith, c.loop-k.invariant.0, c.loop-k.invariant.2.on.few, c.loop-k-test.true)
 
 pub loop-k-preserved : goal.loop-k-preserved
 loop-k-preserved c =
     let i = c.loop-k.invariant in
-    (i.0, next_leg _ _ _ i.1 c.loop-k-test.true c.draw_leg-drawn.ensures.at_after c.draw_leg-drawn.ensures.at_bound)
-
-pub shape_of-lat : goal.shape_of-lat
-shape_of-lat c = omega (arith, c.loop-k.invariant.1.on.lats)
-
-pub shape_of-lon : goal.shape_of-lon
-shape_of-lon c = omega (arith, c.loop-k.invariant.1.on.lons)
+    let d = c.draw_leg-drawn.ensures in
+    (i.0, (d.same.0 ∙ i.1.0, d.same.1 ∙ i.1.1), next_leg _ _ _ i.2 c.loop-k-test.true d.sheet_after d.at_bound)
 
 pub returns : goal.returns
 unfolding journey_points
-returns c = record { value = (finished _ _ _ (over _ _ _ c.loop-k.invariant.1 c.loop-k-test.false)).0; lat_after = (finished _ _ _ (over _ _ _ c.loop-k.invariant.1 c.loop-k-test.false)).1.0; lon_after = (finished _ _ _ (over _ _ _ c.loop-k.invariant.1 c.loop-k-test.false)).1.1 }
+returns c = record { value = (finished _ _ _ (over _ _ _ c.loop-k.invariant.2 c.loop-k-test.false)).0; lat_after = (finished _ _ _ (over _ _ _ c.loop-k.invariant.2 c.loop-k-test.false)).1.0; lon_after = (finished _ _ _ (over _ _ _ c.loop-k.invariant.2 c.loop-k-test.false)).1.1; same = c.loop-k.invariant.1 }

@@ -7,4 +7,4 @@ pub returns : goal.returns
 unfolding draw_one
 returns c =
     let p = c.put-at.ensures in
-    rw (p.lat_after, p.lon_after, c.later.ensures, p.value, c.next-drawn.ensures)
+    record { sheet_after = rw (p.lat_after, p.lon_after, c.later.ensures, p.value, c.next-drawn.ensures); same = p.same }

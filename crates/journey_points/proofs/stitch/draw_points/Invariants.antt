@@ -3,10 +3,11 @@ use borrow.Author.Rules.{rules}
 use Prim.Native.Nat.{◌-◌}
 use native.Mathlib.Omega.{arith}
 use mathlib.Core.Path.{◌∙◌}
-use Rattle.point_columns.specs.Sheet.{sheet}
+use Rattle.point_columns.specs.Columns.{SameColumns, drawing}
 use Rattle.journey_points.specs.Journey.{point_position}
 use Rattle.journey_points.proofs.Stitching.{Going, start, more, done}
 use Rattle.journey_points.proofs.stitch.draw_points.Given as goal
 
 abbrev pub invariant-loop-k : goal.invariant-loop-k
-invariant-loop-k l = Going (point_position l.reals l.points) l.first l.n (sheet l.initial.lat l.initial.lon l.initial.drawn.last l.initial.drawn.at) (sheet l.lat l.lon l.drawn.last l.drawn.at) l.k
+invariant-loop-k l =
+    SameColumns l.initial.sheet l.sheet × Going (point_position l.reals l.points) l.first l.n (drawing l.initial.sheet l.initial.drawn.last l.initial.drawn.at) (drawing l.sheet l.drawn.last l.drawn.at) l.k

@@ -24,22 +24,22 @@ joined a b c d p q r s = s ∙ ap (λ (k : List ℕ). k ++ d) (r ∙ ap (λ (k :
 pub returns-then-a-gt96 : goal.returns-then-a-gt96
 returns-then-a-gt96 c =
     let a = c.args in
-    over (id_of a.bytes.now a.words.now a.col) a.col.starts.n a.a.now a.b.now a.c.now a.d.now c.requires (omega arith)
+    over (id_of a.lent.now.bytes.now a.lent.now.words.now a.col) a.col.starts.n a.a.now a.b.now a.c.now a.d.now c.requires (omega arith)
 
 pub returns-then-b-gt96 : goal.returns-then-b-gt96
 returns-then-b-gt96 c =
     let a = c.args in
-    over (id_of a.bytes.now a.words.now a.col) a.col.starts.n a.a.now a.b.now a.c.now a.d.now c.requires (omega arith)
+    over (id_of a.lent.now.bytes.now a.lent.now.words.now a.col) a.col.starts.n a.a.now a.b.now a.c.now a.d.now c.requires (omega arith)
 
 pub returns-then-c-gt96 : goal.returns-then-c-gt96
 returns-then-c-gt96 c =
     let a = c.args in
-    over (id_of a.bytes.now a.words.now a.col) a.col.starts.n a.a.now a.b.now a.c.now a.d.now c.requires (omega arith)
+    over (id_of a.lent.now.bytes.now a.lent.now.words.now a.col) a.col.starts.n a.a.now a.b.now a.c.now a.d.now c.requires (omega arith)
 
 pub returns-then-d-gt96 : goal.returns-then-d-gt96
 returns-then-d-gt96 c =
     let a = c.args in
-    over (id_of a.bytes.now a.words.now a.col) a.col.starts.n a.a.now a.b.now a.c.now a.d.now c.requires (omega arith)
+    over (id_of a.lent.now.bytes.now a.lent.now.words.now a.col) a.col.starts.n a.a.now a.b.now a.c.now a.d.now c.requires (omega arith)
 
 pub slice_bounds-find-end : goal.slice_bounds-find-end
 slice_bounds-find-end c = sym (length-take-le _ _ (omega arith))
@@ -47,4 +47,4 @@ slice_bounds-find-end c = sym (length-take-le _ _ (omega arith))
 pub returns : goal.returns
 returns c =
     let a = c.args in
-    c.find.ensures ∙ ap (row_of (id_of a.bytes.now a.words.now a.col) a.col.starts.n) (joined a.a.now a.b.now a.c.now a.d.now c.put-i.ensures.1 c.put-j.ensures.1 c.put-k.ensures.1 c.put-n.ensures.1)
+    c.find.ensures ∙ ap (row_of (id_of a.lent.now.bytes.now a.lent.now.words.now a.col) a.col.starts.n) (joined a.a.now a.b.now a.c.now a.d.now c.put-i.ensures.1 c.put-j.ensures.1 c.put-k.ensures.1 c.put-n.ensures.1)

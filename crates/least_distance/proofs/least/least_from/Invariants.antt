@@ -7,7 +7,7 @@ use Rattle.least_distance.proofs.least.least_from.Given as goal
 
 abbrev pub invariant-loop-k : goal.invariant-loop-k
 invariant-loop-k l = record {
-  above : min l.at (length (line_of l.lat l.lon)) ≤ l.k;
-  best : l.least.best ≡ least_from l.stop (line_of l.lat l.lon) l.k;
+  above : min l.at (length (line_of l.line.lat.now l.line.lon.now)) ≤ l.k;
+  best : l.least.best ≡ least_from l.stop (line_of l.line.lat.now l.line.lon.now) l.k;
   beyond : Beyond l.least.best l.least.limit;
 }

@@ -10,7 +10,7 @@ pub returns-in_default : goal.returns-in_default
 returns-in_default c = rw c.in_default.is
 
 pub trip_path-requires : goal.trip_path-requires
-trip_path-requires c = let a = c.args in subst (λ (f : Option ℕ). leg_count a.words.now a.c f ≤ 1000000) c.in-Some.is c.requires
+trip_path-requires c = let a = c.args in subst (λ (f : Option ℕ). leg_count a.lent.now.words.now a.c f ≤ 1000000) c.in-Some.is c.requires
 
 pub returns : goal.returns
 returns c = rw (c.in-Some.is, c.trip_path.ensures)

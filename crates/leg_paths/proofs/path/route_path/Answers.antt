@@ -6,8 +6,8 @@ use Rattle.leg_paths.proofs.path.route_path.Goals as goal
 pub chain_path-requires : goal.chain_path-requires
 chain_path-requires c = c.requires
 
-pub returns-in-Over : goal.returns-in-Over
-returns-in-Over c = rw (sym c.route_between.ensures ∙ c.in-Over.is)
+pub returns-in-Some : goal.returns-in-Some
+returns-in-Some c = rw (sym c.route_between.ensures ∙ c.in-Some.is)
 
-pub returns-in-Nothing : goal.returns-in-Nothing
-returns-in-Nothing c = rw (sym c.route_between.ensures ∙ c.in-Nothing.is, c.chain_path.ensures)
+pub returns-in-None : goal.returns-in-None
+returns-in-None c = rw (sym c.route_between.ensures ∙ c.in-None.is, c.chain_path.ensures)

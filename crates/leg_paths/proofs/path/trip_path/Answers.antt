@@ -24,5 +24,5 @@ returns-in-Some c =
 pub returns-in-None : goal.returns-in-None
 returns-in-None c =
     let a = c.args in
-    let s = shape_is a.bytes.now a.words.now a.reals.now a.c _ _ _ _ c.leg_span-span.ensures c.shape_column-lat.ensures c.shape_column-lon.ensures in
+    let s = shape_is a.lent.now.bytes.now a.lent.now.words.now a.lent.now.reals.now a.c _ _ _ _ c.leg_span-span.ensures c.shape_column-lat.ensures c.shape_column-lon.ensures in
     rw (c.route_path.ensures, s) (by_route _ _ _ _ _ _ _ _ _ (c.vertices.ensures ∙ ap length s) c.if-vertices-lt2.false (sym c.trip_spanned.ensures ∙ c.in-None.is))

@@ -9,4 +9,4 @@ use Rattle.leg_points.proofs.Positions.{Run, starts, goes_on, ends}
 use Rattle.leg_points.proofs.shape.run.Given as goal
 
 abbrev pub invariant-loop-k : goal.invariant-loop-k
-invariant-loop-k l = Run (line_of l.lat l.lon) (row_position l.bytes l.words l.reals l.stops l.calls) l.at (l.first + l.skip) l.n l.cursor.at l.k
+invariant-loop-k l = Run (line_of l.line.lat.now l.line.lon.now) (row_position l.lent.bytes.now l.lent.words.now l.lent.reals.now l.leg.stops l.leg.calls) l.at (l.leg.first + l.skip) l.n l.cursor.at l.k

@@ -7,5 +7,5 @@ use Rattle.line_parts.proofs.part.part_length.Given as goal
 abbrev pub invariant-loop-k : goal.invariant-loop-k
 invariant-loop-k l = record {
   within : l.k ≤ max l.fn.part.first l.fn.part.last;
-  sum : l.sum ≡ length_from (line_of l.lat l.lon) l.fn.part.first (l.k - l.fn.part.first);
+  sum : l.sum ≡ length_from (line_of l.line.lat.now l.line.lon.now) l.fn.part.first (l.k - l.fn.part.first);
 }

@@ -7,4 +7,4 @@ use Rattle.line_parts.proofs.part.point.Goals as goal
 
 pub returns-else-k-vertices : goal.returns-else-k-vertices
 unfolding of_bits
-returns-else-k-vertices c = sym (no_vertex (line_of c.args.lat.now c.args.lon.now) c.args.k (omega (arith, c.vertices.ensures)))
+returns-else-k-vertices c = sym (no_vertex (line_of c.args.line.lat.now c.args.line.lon.now) c.args.k (omega (arith, c.vertices.ensures)))

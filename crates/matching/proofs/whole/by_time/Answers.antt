@@ -1,5 +1,4 @@
 use borrow.Author.Rules.{rules}
-use borrow.Author.Tests.{not-false, not-true}
 use mathlib.Core.Path.{◌∙◌, sym}
 use Rattle.matching.specs.Matching.{timed_trip}
 use Rattle.matching.proofs.Tokens.{no_token, with_token}
@@ -13,8 +12,8 @@ returns-then-not-departs c = rw (c.if-not-departs.true)
 
 pub returns-then-token-eq0 : goal.returns-then-token-eq0
 unfolding timed_trip
-returns-then-token-eq0 c = let a = c.args in rw (c.if-not-departs.false, ← c.token_of-token.ensures) (no_token a.bytes.now a.words.now a.p a.today a.yesterday c.token_of-token.result.now c.if-token-eq0.true)
+returns-then-token-eq0 c = let a = c.args in let t = a.timetable.now in rw (c.if-not-departs.false, ← c.token_of-token.ensures) (no_token t.lent.bytes.now t.lent.words.now t.plan a.asked.today a.asked.yesterday c.token_of-token.result.now c.if-token-eq0.true)
 
 pub returns : goal.returns
 unfolding timed_trip
-returns c = let a = c.args in rw (c.if-not-departs.false, ← c.token_of-token.ensures) (c.by_token.ensures ∙ with_token a.bytes.now a.words.now a.p a.today a.yesterday c.token_of-token.result.now c.if-token-eq0.false)
+returns c = let a = c.args in let t = a.timetable.now in rw (c.if-not-departs.false, ← c.token_of-token.ensures) (c.by_token.ensures ∙ with_token t.lent.bytes.now t.lent.words.now t.plan a.asked.today a.asked.yesterday c.token_of-token.result.now c.if-token-eq0.false)

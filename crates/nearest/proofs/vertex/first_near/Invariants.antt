@@ -6,4 +6,4 @@ use Rattle.nearest.proofs.vertex.first_near.Given as goal
 
 abbrev pub invariant-loop-k : goal.invariant-loop-k
 invariant-loop-k l =
-    first_near l.distance 0 (squares_of l.stop (line_of l.lat l.lon)) ≡ first_near l.distance l.k (squares_of l.stop (drop l.k (line_of l.lat l.lon)))
+    first_near l.distance 0 (squares_of l.stop (line_of l.line.lat.now l.line.lon.now)) ≡ first_near l.distance l.k (squares_of l.stop (drop l.k (line_of l.line.lat.now l.line.lon.now)))

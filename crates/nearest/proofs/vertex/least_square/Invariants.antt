@@ -8,4 +8,4 @@ use Rattle.nearest.proofs.vertex.least_square.Given as goal
 
 abbrev pub invariant-loop-k : goal.invariant-loop-k
 invariant-loop-k l =
-    least_in (squares_of l.stop (line_of l.lat l.lon)) ≡ foldl least_of l.best (squares_of l.stop (drop l.k (line_of l.lat l.lon)))
+    least_in (squares_of l.stop (line_of l.line.lat.now l.line.lon.now)) ≡ foldl least_of l.best (squares_of l.stop (drop l.k (line_of l.line.lat.now l.line.lon.now)))

@@ -13,5 +13,5 @@ pub returns : goal.returns
 returns c =
     let a = c.args in
     rw c.in-Some.is
-    (approach_is (pools a.bytes.now a.words.now a.times.now a.reals.now a.dists.now) a.t a.trip a.rows.now a.stops.now a.arrivals.now a.departures.now a.clock _ c.row_end-from.ensures c.call_end-to.ensures c.run_seconds-run.ensures c.moment.ensures c.approach_fraction-frac.ensures c.walk_leg-walked.ensures
+    (approach_is (pools a.lent.now.bytes.now a.lent.now.words.now a.lent.now.times.now a.lent.now.reals.now a.lent.now.dists.now) a.t a.trip a.rows.now a.stops.now a.arrivals.now a.departures.now a.clock _ c.row_end-from.ensures c.call_end-to.ensures c.run_seconds-run.ensures c.moment.ensures c.approach_fraction-frac.ensures c.walk_leg-walked.ensures
     c.approach_status-status.ensures c.word.ensures c.on_leg.ensures)

@@ -14,11 +14,11 @@ at_call-requires c =
 
 pub sailing_trip-trip-requires : goal.sailing_trip-trip-requires
 sailing_trip-trip-requires c =
-    let a = c.args in record { ready = (matchable (pools a.bytes.now a.words.now a.times.now a.reals.now a.dists.now) a.t c.requires.t_value).0; in_time = (matchable (pools a.bytes.now a.words.now a.times.now a.reals.now a.dists.now) a.t c.requires.t_value).1.0; in_reach = (matchable (pools a.bytes.now a.words.now a.times.now a.reals.now a.dists.now) a.t c.requires.t_value).1.1 }
+    let a = c.args in record { ready = (matchable (pools a.lent.now.bytes.now a.lent.now.words.now a.lent.now.times.now a.lent.now.reals.now a.lent.now.dists.now) a.t c.requires.t_value).0; in_time = (matchable (pools a.lent.now.bytes.now a.lent.now.words.now a.lent.now.times.now a.lent.now.reals.now a.lent.now.dists.now) a.t c.requires.t_value).1.0; in_reach = (matchable (pools a.lent.now.bytes.now a.lent.now.words.now a.lent.now.times.now a.lent.now.reals.now a.lent.now.dists.now) a.t c.requires.t_value).1.1 }
 
 pub under_way-requires : goal.under_way-requires
 under_way-requires c =
-    let a = c.args in record { trip_bound = leg_few (pools a.bytes.now a.words.now a.times.now a.reals.now a.dists.now) a.t c.requires.t_value _ c.sailing_trip-trip.ensures; k_bound = omega (arith, between_below a.clock a.arrivals.now a.departures.now _ (sym c.turn_of-turn.ensures ∙ c.in-Between.is), c.requires.arrivals_len_bound) }
+    let a = c.args in record { trip_bound = leg_few (pools a.lent.now.bytes.now a.lent.now.words.now a.lent.now.times.now a.lent.now.reals.now a.lent.now.dists.now) a.t c.requires.t_value _ c.sailing_trip-trip.ensures; k_bound = omega (arith, between_below a.clock a.arrivals.now a.departures.now _ (sym c.turn_of-turn.ensures ∙ c.in-Between.is), c.requires.arrivals_len_bound) }
 
 pub returns-in-At : goal.returns-in-At
 unfolding voyage_from

@@ -15,16 +15,16 @@ returns-then-moment-clock c = rw (lt-ltb _ _ (rw c.moment.ensures at c.if-moment
 
 pub sailing_trip-trip-requires : goal.sailing_trip-trip-requires
 sailing_trip-trip-requires c =
-    let a = c.args in record { ready = (matchable (pools a.bytes.now a.words.now a.times.now a.reals.now a.dists.now) a.t c.requires).0; in_time = (matchable (pools a.bytes.now a.words.now a.times.now a.reals.now a.dists.now) a.t c.requires).1.0; in_reach = (matchable (pools a.bytes.now a.words.now a.times.now a.reals.now a.dists.now) a.t c.requires).1.1 }
+    let a = c.args in record { ready = (matchable (pools a.lent.now.bytes.now a.lent.now.words.now a.lent.now.times.now a.lent.now.reals.now a.lent.now.dists.now) a.t c.requires).0; in_time = (matchable (pools a.lent.now.bytes.now a.lent.now.words.now a.lent.now.times.now a.lent.now.reals.now a.lent.now.dists.now) a.t c.requires).1.0; in_reach = (matchable (pools a.lent.now.bytes.now a.lent.now.words.now a.lent.now.times.now a.lent.now.reals.now a.lent.now.dists.now) a.t c.requires).1.1 }
 
 pub approach_from-requires : goal.approach_from-requires
 approach_from-requires c =
     let a = c.args in
-    leg_few (pools a.bytes.now a.words.now a.times.now a.reals.now a.dists.now) a.t c.requires _ c.sailing_trip-trip.ensures
+    leg_few (pools a.lent.now.bytes.now a.lent.now.words.now a.lent.now.times.now a.lent.now.reals.now a.lent.now.dists.now) a.t c.requires _ c.sailing_trip-trip.ensures
 
 pub returns : goal.returns
 returns c =
     let a = c.args in
     rw c.approach_from.ensures
-    (towards_first (pools a.bytes.now a.words.now a.times.now a.reals.now a.dists.now) a.t a.rows.now a.stops.now a.arrivals.now a.departures.now a.clock _ _ _ _
+    (towards_first (pools a.lent.now.bytes.now a.lent.now.words.now a.lent.now.times.now a.lent.now.reals.now a.lent.now.dists.now) a.t a.rows.now a.stops.now a.arrivals.now a.departures.now a.clock _ _ _ _
     (rw c.moment.ensures at c.if-moment-clock.false) c.sailing_trip-trip.ensures c.call_end-to.ensures c.word-stop.ensures c.previous_row-before.ensures)

@@ -28,7 +28,7 @@ pub returns-in-Equal : goal.returns-in-Equal
 unfolding stand_of
 returns-in-Equal c =
     let a = c.args in
-    let r = parts_at a.bytes.now a.words.now a.rows in
+    let r = parts_at a.lent.now.bytes.now a.lent.now.words.now a.rows in
     let k = key_of a.rows a.a.now a.b.now a.day a.flag in
     here r k c.args.n c.seek-k.result c.seek-k.ensures c.requires.pairs c.if-k-n.true (sym c.stands.ensures ∙ c.in-Equal.is)
 
@@ -36,7 +36,7 @@ pub returns-in-Less : goal.returns-in-Less
 unfolding stand_of
 returns-in-Less c =
     let a = c.args in
-    let r = parts_at a.bytes.now a.words.now a.rows in
+    let r = parts_at a.lent.now.bytes.now a.lent.now.words.now a.rows in
     let k = key_of a.rows a.a.now a.b.now a.day a.flag in
     nowhere r k c.args.n c.seek-k.result c.seek-k.ensures c.requires.pairs (λ l e. before_not c.stands.ensures c.in-Less.is e)
 
@@ -44,7 +44,7 @@ pub returns-in-Greater : goal.returns-in-Greater
 unfolding stand_of
 returns-in-Greater c =
     let a = c.args in
-    let r = parts_at a.bytes.now a.words.now a.rows in
+    let r = parts_at a.lent.now.bytes.now a.lent.now.words.now a.rows in
     let k = key_of a.rows a.a.now a.b.now a.day a.flag in
     nowhere r k c.args.n c.seek-k.result c.seek-k.ensures c.requires.pairs (λ l e. after_not c.stands.ensures c.in-Greater.is e)
 
@@ -52,6 +52,6 @@ pub returns-else-k-n : goal.returns-else-k-n
 unfolding stand_of
 returns-else-k-n c =
     let a = c.args in
-    let r = parts_at a.bytes.now a.words.now a.rows in
+    let r = parts_at a.lent.now.bytes.now a.lent.now.words.now a.rows in
     let k = key_of a.rows a.a.now a.b.now a.day a.flag in
     nowhere r k c.args.n c.seek-k.result c.seek-k.ensures c.requires.pairs (λ l e. absurd (omega (arith, c.if-k-n.false)))

@@ -17,7 +17,7 @@ not_less o p q h e = h (sym p ∙ sym q ∙ e)
 pub loop-lo-init : goal.loop-lo-init
 loop-lo-init c =
     let a = c.args in
-    let r = parts_at a.bytes.now a.words.now a.rows in
+    let r = parts_at a.lent.now.bytes.now a.lent.now.words.now a.rows in
     let k = key_of a.rows a.a.now a.b.now a.day a.flag in
     start r k c.args.n
 
@@ -25,7 +25,7 @@ pub loop-lo-preserved-in-Less : goal.loop-lo-preserved-in-Less
 unfolding stand_of
 loop-lo-preserved-in-Less c =
     let a = c.args in
-    let r = parts_at a.bytes.now a.words.now a.rows in
+    let r = parts_at a.lent.now.bytes.now a.lent.now.words.now a.rows in
     let k = key_of a.rows a.a.now a.b.now a.day a.flag in
     up r k c.args.n c.requires.pairs c.loop-lo.lo c.loop-lo.hi _ c.loop-lo.invariant (omega arith) (sym c.stands.ensures ∙ c.in-Less.is)
 
@@ -33,7 +33,7 @@ pub loop-lo-preserved-in-Equal : goal.loop-lo-preserved-in-Equal
 unfolding stand_of
 loop-lo-preserved-in-Equal c =
     let a = c.args in
-    let r = parts_at a.bytes.now a.words.now a.rows in
+    let r = parts_at a.lent.now.bytes.now a.lent.now.words.now a.rows in
     let k = key_of a.rows a.a.now a.b.now a.day a.flag in
     down r k c.args.n c.requires.pairs c.loop-lo.lo c.loop-lo.hi _ c.loop-lo.invariant (omega arith) (omega arith) (not_less Equal c.in-Equal.is (sym c.stands.ensures) (λ q. clash (cc)))
 
@@ -41,7 +41,7 @@ pub loop-lo-preserved : goal.loop-lo-preserved
 unfolding stand_of
 loop-lo-preserved c =
     let a = c.args in
-    let r = parts_at a.bytes.now a.words.now a.rows in
+    let r = parts_at a.lent.now.bytes.now a.lent.now.words.now a.rows in
     let k = key_of a.rows a.a.now a.b.now a.day a.flag in
     down r k c.args.n c.requires.pairs c.loop-lo.lo c.loop-lo.hi _ c.loop-lo.invariant (omega arith) (omega arith) (not_less Greater c.in-Greater.is (sym c.stands.ensures) (λ q. clash (cc)))
 
@@ -49,6 +49,6 @@ pub returns : goal.returns
 unfolding stand_of
 returns c =
     let a = c.args in
-    let r = parts_at a.bytes.now a.words.now a.rows in
+    let r = parts_at a.lent.now.bytes.now a.lent.now.words.now a.rows in
     let k = key_of a.rows a.a.now a.b.now a.day a.flag in
     found r k c.args.n c.loop-lo.lo c.loop-lo.hi c.loop-lo.invariant c.loop-lo-test.false

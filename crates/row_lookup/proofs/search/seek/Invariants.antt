@@ -11,7 +11,7 @@ use Rattle.row_lookup.proofs.Halves.{Bracket, down, found, start, up}
 use Rattle.row_lookup.proofs.search.seek.Given as goal
 
 abbrev pub invariant-loop-lo : goal.invariant-loop-lo
-invariant-loop-lo l = Bracket (parts_at l.bytes l.words l.rows) (key_of l.rows l.a l.b l.day l.flag) l.n l.lo l.hi
+invariant-loop-lo l = Bracket (parts_at l.lent.bytes.now l.lent.words.now l.rows) (key_of l.rows l.a l.b l.day l.flag) l.n l.lo l.hi
 
 abbrev pub decreases-loop-lo : goal.decreases-loop-lo
 decreases-loop-lo l = l.hi - l.lo

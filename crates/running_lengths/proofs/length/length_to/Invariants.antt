@@ -5,4 +5,4 @@ use Rattle.running_lengths.specs.Length.{length_to}
 use Rattle.running_lengths.proofs.length.length_to.Given as goal
 
 abbrev pub invariant-loop-i : goal.invariant-loop-i
-invariant-loop-i l = l.sum ≡ length_to (line_of l.lat l.lon) l.i
+invariant-loop-i l = l.sum ≡ length_to (line_of l.line.lat.now l.line.lon.now) l.i

@@ -1,12 +1,5 @@
-use borrow.Author.Rules.{rules}
 use Rattle.service_days.proofs.Holds.{ordinal_word}
 use Rattle.service_days.specs.Services.{service_runs}
-use Rattle.service_days.proofs.running.is_running.Reads as reads
-use Rattle.service_days.proofs.running.is_running.Lts as lts
-use Rattle.days.proofs.ordinal_of.Reads as ordinal-of-reads
-use Rattle.ids.proofs.cell.Reads as cell-reads
-use Rattle.ids.proofs.id.Reads as id-reads
-use Rattle.services.proofs.runs.Reads as runs-reads
 use Rattle.service_days.proofs.running.is_running.Goals as goal
 
 pub overflow_cast-day : goal.overflow_cast-day

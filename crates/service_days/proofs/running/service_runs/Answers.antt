@@ -1,24 +1,18 @@
 use borrow.Author.Rules.{rules}
-use mathlib.Core.Path.{◌∙◌, sym}
-use Rattle.tables.specs.Pools.{pools}
+use mathlib.Core.Path.{sym}
+use Rattle.tables.specs.Pools.{pools_of}
 use Rattle.service_days.specs.Services.{running_of}
 use Rattle.service_days.proofs.Holds.{service_ready}
-use Rattle.answers.proofs.Told.{told, denied}
-use Rattle.checks.proofs.check_service.Reads as check-service-reads
-use Rattle.tables.proofs.bounds.Bounds.chart.Reads as chart-reads
-use Rattle.service_days.proofs.running.is_running.Reads as is-running-reads
+use Rattle.answers.proofs.Told.{told, handed_on}
 use Rattle.service_days.proofs.running.service_runs.Goals as goal
 
-pub returns-then-refusal-ne0 : goal.returns-then-refusal-ne0
+pub returns-in_err-check_service : goal.returns-in_err-check_service
 unfolding running_of
-returns-then-refusal-ne0 c = rw (← c.chart.ensures, ← (c.number_or_zero-refusal.ensures ∙ c.check_service.ensures)) (denied _ _ c.if-refusal-ne0.true)
+returns-in_err-check_service c = handed_on _ _ _ _ c.from_residual.ensures.1 (rw c.chart.ensures at c.in_err-check_service.ensures)
 
 pub is_running-requires : goal.is_running-requires
-is_running-requires c =
-    let a = c.args in
-    service_ready (pools a.bytes.now a.words.now a.times.now a.reals.now a.dists.now) a.t a.s (rw (← c.chart.ensures) (sym (c.number_or_zero-refusal.ensures ∙ c.check_service.ensures) ∙ c.if-refusal-ne0.false))
+is_running-requires c = service_ready (pools_of c.args.lent.now) c.args.t c.args.s (rw c.chart.ensures at (sym c.in_ok-check_service.ensures))
 
 pub returns : goal.returns
 unfolding running_of
-returns c =
-    rw (← c.chart.ensures, ← (c.number_or_zero-refusal.ensures ∙ c.check_service.ensures), ← c.is_running.ensures) (c.run_answer.ensures ∙ told _ _ c.if-refusal-ne0.false)
+returns c = rw (← c.is_running.ensures) (told _ _ (sym (rw c.chart.ensures at c.in_ok-check_service.ensures)))

@@ -2,7 +2,7 @@ use mathlib.Core.Path.{sym}
 use Rattle.stop_ids.proofs.stop.by_name.Goals as goal
 
 pub named_stop-requires : goal.named_stop-requires
-named_stop-requires c = record { known = c.requires.known; feed_len_bound = c.requires.feed_len_bound; s_len_bound = c.requires.s_len_bound c.if-named.true }
+named_stop-requires c = record { feed_len_bound = c.requires.feed_len_bound; s_len_bound = c.requires.s_len_bound c.if-named.true }
 
 pub returns-then-named : goal.returns-then-named
 returns-then-named c = rw c.if-named.true c.named_stop.ensures

@@ -1,14 +1,13 @@
-use borrow.Author.Rules.{rules}
-use mathlib.Core.Path.{ap}
-use Rattle.refusals.specs.Answer.{given}
-use Rattle.answers.proofs.Told.{told, denied}
+-- `stop_projection::step::project_stop` meets its contract.
+use mathlib.Core.Path.{sym}
+use Rattle.answers.proofs.Told.{told, handed_on}
 use Rattle.stop_projection.specs.Step.{stepped_of}
 use Rattle.stop_projection.proofs.step.project_stop.Goals as goal
 
-pub returns-then-n-ne0 : goal.returns-then-n-ne0
+pub returns-in_err-check_step : goal.returns-in_err-check_step
 unfolding stepped_of
-returns-then-n-ne0 c = rw (← c.refusal-n.ensures) (denied _ _ c.if-n-ne0.true)
+returns-in_err-check_step c = handed_on _ _ _ _ c.from_residual.ensures.1 c.in_err-check_step.ensures
 
 pub returns : goal.returns
 unfolding stepped_of
-returns c = rw (← c.refusal-n.ensures, ← c.step.ensures) (told _ _ c.if-n-ne0.false)
+returns c = rw (← c.step.ensures) (told _ _ (sym c.in_ok-check_step.ensures))

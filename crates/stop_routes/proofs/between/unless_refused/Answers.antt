@@ -1,4 +1,5 @@
 -- `stop_routes::between::unless_refused` meets its contract.
+use Rattle.std.specs.Prelude.{Some, None}
 use mathlib.Core.Path.{◌≡◌, sym, ◌∙◌}
 use mathlib.Core.Bool.{true, false}
 use mathlib.Core.List.{List}
@@ -10,20 +11,19 @@ use Rattle.ways.specs.declared.way.Way.{Way}
 use Rattle.routes.specs.Route.{route_of}
 use Rattle.stop_routes.specs.Routed.{roundabout, routed_of}
 use Rattle.routes.specs.declared.route.Route.{Route}
-use Rattle.stop_routes.specs.declared.between.Routed.TheVariants.{Over, Nothing}
 use Rattle.stop_routes.proofs.between.unless_refused.Goals as goal
 use Rattle.stop_routes.proofs.between.unless_refused.Goals.{then-route, else-route}
 
 module _ (line : List Point) (part : Part) (way : Way) (prev next : Point) {route : Route} (e : route ≡ route_of line part) where
-  short : lt route.total one ≡ true → Nothing ≡ routed_of line part way prev next
+  short : lt route.total one ≡ true → None ≡ routed_of line part way prev next
   unfolding routed_of
   short h = rw (← e, h)
 
-  far : lt route.total one ≡ false → roundabout route.total prev next ≡ true → Nothing ≡ routed_of line part way prev next
+  far : lt route.total one ≡ false → roundabout route.total prev next ≡ true → None ≡ routed_of line part way prev next
   unfolding routed_of
   far h r = rw (← e, h, r)
 
-  fair : lt route.total one ≡ false → roundabout route.total prev next ≡ false → Over route way ≡ routed_of line part way prev next
+  fair : lt route.total one ≡ false → roundabout route.total prev next ≡ false → Some (record { route = route; way = way }) ≡ routed_of line part way prev next
   unfolding routed_of
   fair h r = rw (← e, h, r)
 

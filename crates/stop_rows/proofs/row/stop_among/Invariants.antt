@@ -6,4 +6,4 @@ use Rattle.stop_rows.specs.Rows.{row_from}
 use Rattle.stop_rows.proofs.row.stop_among.Given as goal
 
 abbrev pub invariant-loop-k : goal.invariant-loop-k
-invariant-loop-k l = (j : ℕ) → j < l.k → row_from l.bytes l.words l.l l.sequence l.from j ≡ false
+invariant-loop-k l = (j : ℕ) → j < l.k → row_from l.lent.bytes.now l.lent.words.now l.l l.sequence l.from j ≡ false

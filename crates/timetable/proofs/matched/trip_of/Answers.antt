@@ -23,8 +23,8 @@ pub yesterday-requires : goal.yesterday-requires
 yesterday-requires c = subst InReach (sym (to_z-of_z {w = w64} (record { sfits = c.local-at.type_inv }) ∙ c.local-at.ensures)) c.requires.in_reach
 
 pub resolve-requires : goal.resolve-requires
-resolve-requires c = rw c.plan_of-p.ensures c.requires.ready
+resolve-requires c = rw c.plan_of.ensures c.requires.ready
 
 pub returns : goal.returns
 unfolding journey_trip
-returns c = rw (c.resolve.ensures, c.yesterday.ensures, c.today.ensures, to_z-of_z {w = w64} (record { sfits = c.local-at.type_inv }), c.departs.ensures, c.route.ensures, c.id.ensures, c.local-at.ensures, c.plan_of-p.ensures)
+returns c = rw (c.resolve.ensures, c.yesterday.ensures, c.today.ensures, to_z-of_z {w = w64} (record { sfits = c.local-at.type_inv }), c.departs.ensures, c.route.ensures, c.id.ensures, c.local-at.ensures, c.plan_of.ensures)

@@ -6,4 +6,4 @@ use Rattle.trip_tails.specs.Tails.{tail_row}
 use Rattle.trip_tails.proofs.tail.next_row.Given as goal
 
 abbrev pub invariant-loop-k : goal.invariant-loop-k
-invariant-loop-k l = (j : ℕ) → j < l.k → tail_row l.bytes l.words l.tripkeys l.tail l.found j ≡ false
+invariant-loop-k l = (j : ℕ) → j < l.k → tail_row l.lent.bytes.now l.lent.words.now l.tripkeys l.tail l.found j ≡ false

@@ -13,7 +13,7 @@ pub overflow_add-k : goal.overflow_add-k
 overflow_add-k c = omega (arith, (first_found _ _ _ (sym c.next_row.ensures ∙ c.in-Some.is)).0)
 
 pub next_row-requires-in-Some : goal.next_row-requires-in-Some
-next_row-requires-in-Some c = let a = c.args in up_to_first a.bytes.now a.words.now a.tripkeys a.tail.now _ _ (sym c.next_row.ensures ∙ c.in-Some.is) c.cell.ensures
+next_row-requires-in-Some c = let a = c.args in up_to_first a.lent.now.bytes.now a.lent.now.words.now a.tripkeys a.tail.now _ _ (sym c.next_row.ensures ∙ c.in-Some.is) c.cell.ensures
 
 pub returns-in-Some-next_row : goal.returns-in-Some-next_row
 unfolding only_trip

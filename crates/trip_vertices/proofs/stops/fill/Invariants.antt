@@ -5,4 +5,4 @@ use Rattle.trip_vertices.proofs.Writing.{Filled}
 use Rattle.trip_vertices.proofs.stops.fill.Given as goal
 
 abbrev pub invariant-loop-k : goal.invariant-loop-k
-invariant-loop-k l = Filled (line_of l.lat l.lon) (row_position l.bytes l.words l.reals l.stops l.calls) l.first l.n l.initial.out l.out l.at l.k
+invariant-loop-k l = Filled (line_of l.line.lat.now l.line.lon.now) (row_position l.lent.bytes.now l.lent.words.now l.lent.reals.now l.stops l.calls) l.first l.n l.initial.out l.out l.at l.k

@@ -18,6 +18,6 @@ pub returns : goal.returns
 unfolding trip_vertices trip_line
 returns c =
     let a = c.args in
-    let w = of_enough a.bytes.now a.words.now a.reals.now a.t a.out.now c.in-Some.trip c.in-Some.is c.cell-n.ensures c.if-out-n.false
+    let w = of_enough a.lent.now.bytes.now a.lent.now.words.now a.lent.now.reals.now a.t a.out.now c.in-Some.trip c.in-Some.is c.cell-n.ensures c.if-out-n.false
     (c.fill.ensures ∙ rw (c.shape_column.ensures, c.shape_column-2.ensures, c.trip_span-points.ensures, c.cell.ensures, c.cell-n.ensures)) in
     record { result_value = w.0; out_after = w.1 }

@@ -4,4 +4,4 @@ use Rattle.row_lists.proofs.Writing.{Filled}
 use Rattle.update_times.proofs.moment.fill.Given as goal
 
 abbrev pub invariant-loop-k : goal.invariant-loop-k
-invariant-loop-k l = Filled (moment_or l.bytes l.times l.has l.own l.other) l.rows l.initial.out l.out l.k
+invariant-loop-k l = Filled (moment_or l.lent.bytes.now l.lent.times.now l.has l.own l.other) l.rows l.initial.out l.out l.k

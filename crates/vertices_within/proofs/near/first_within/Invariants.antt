@@ -6,4 +6,4 @@ use Rattle.vertices_within.proofs.near.first_within.Given as goal
 
 abbrev pub invariant-loop-k : goal.invariant-loop-k
 invariant-loop-k l =
-    first_within l.most l.from (distances_of l.stop (drop l.from (line_of l.lat l.lon))) ≡ first_within l.most l.k (distances_of l.stop (drop l.k (line_of l.lat l.lon)))
+    first_within l.most l.from (distances_of l.stop (drop l.from (line_of l.line.lat.now l.line.lon.now))) ≡ first_within l.most l.k (distances_of l.stop (drop l.k (line_of l.line.lat.now l.line.lon.now)))

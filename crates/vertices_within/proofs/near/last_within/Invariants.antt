@@ -6,6 +6,6 @@ use Rattle.vertices_within.proofs.near.last_within.Given as goal
 
 abbrev pub invariant-loop-k : goal.invariant-loop-k
 invariant-loop-k l = record {
-  above : min l.from (length (line_of l.lat l.lon)) ≤ l.k;
-  none : NoneFrom l.stop (line_of l.lat l.lon) l.most l.k;
+  above : min l.from (length (line_of l.line.lat.now l.line.lon.now)) ≤ l.k;
+  none : NoneFrom l.stop (line_of l.line.lat.now l.line.lon.now) l.most l.k;
 }

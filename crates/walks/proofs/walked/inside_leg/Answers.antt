@@ -9,13 +9,13 @@ chain_walked-requires c = c.requires
 pub returns-in-ByDistance : goal.returns-in-ByDistance
 returns-in-ByDistance c =
     let a = c.args in
-    let s = shape_is a.bytes.now a.words.now a.reals.now a.c a.trip _ _ _ c.leg_span-points.ensures c.shape_column-lat.ensures c.shape_column-lon.ensures in
+    let s = shape_is a.lent.now.bytes.now a.lent.now.words.now a.lent.now.reals.now a.c a.trip _ _ _ c.leg_span-points.ensures c.shape_column-lat.ensures c.shape_column-lon.ensures in
     rw (c.in-ByDistance.is, c.distance_walk.ensures, s)
 
 pub returns-in-Polyline : goal.returns-in-Polyline
 returns-in-Polyline c =
     let a = c.args in
-    let s = shape_is a.bytes.now a.words.now a.reals.now a.c a.trip _ _ _ c.leg_span-points.ensures c.shape_column-lat.ensures c.shape_column-lon.ensures in
+    let s = shape_is a.lent.now.bytes.now a.lent.now.words.now a.lent.now.reals.now a.c a.trip _ _ _ c.leg_span-points.ensures c.shape_column-lat.ensures c.shape_column-lon.ensures in
     rw (c.in-Polyline.is, c.route_walk.ensures, s)
 
 pub returns-in-Chain : goal.returns-in-Chain

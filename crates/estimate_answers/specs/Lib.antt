@@ -1,2 +1,0 @@
--- `Answers`: what an estimate answers, in document 01's terms.
-pub mod Answers

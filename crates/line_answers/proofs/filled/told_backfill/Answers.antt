@@ -1,9 +1,0 @@
--- `line_answers::filled::told_backfill` meets its contract.
-use borrow.Author.Rules.{rules}
-use Rattle.line_answers.proofs.filled.told_backfill.Goals as goal
-
-pub returns-in-Rows : goal.returns-in-Rows
-returns-in-Rows c = rw c.in-Rows.is
-
-pub returns-in-Refused : goal.returns-in-Refused
-returns-in-Refused c = rw c.in-Refused.is

@@ -1,9 +1,0 @@
--- `probe_shapes::filled::dists_line` is safe and ends: it writes n numbers.
-use Rattle.std.proofs.Common.{◌-◌, ◌≤◌, rules}
-use Rattle.probe_shapes.proofs.filled.dists_line.Given as goal
-
-abbrev pub invariant-loop-k : goal.invariant-loop-k
-invariant-loop-k g l = l.k ≤ l.n
-
-abbrev pub decreases-loop-k : goal.decreases-loop-k
-decreases-loop-k g l = l.n - l.k
