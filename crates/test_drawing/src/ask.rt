@@ -1,4 +1,5 @@
 // What is drawn, and the answer as it is written.
+use ids::Lent;
 use journey_rules::JourneyLegs;
 use point_columns::Sheet;
 use refusals::Refusal;
@@ -29,7 +30,7 @@ pub(crate) fn answer(out: &impl Print, pools: &Pools<'_>, n: u64) -> io::Result<
 
 fn leg(pools: &Pools<'_>, sheet: &mut Sheet) -> Result<usize, Refusal> {
     leg_drawing::leg_geometry(
-        &pools.lent(),
+        &whole(pools),
         worlds::tables(pools.words),
         worlds::leg(pools.words),
         ids::word(pools.words, 0),
@@ -50,7 +51,7 @@ fn journey(pools: &Pools<'_>, sheet: &mut Sheet) -> Result<usize, Refusal> {
         ended: span(words, 8),
         points: points(words, 9),
     };
-    journeys::journey_geometry(&pools.lent(), legs, sheet)
+    journeys::journey_geometry(&whole(pools), legs, sheet)
 }
 
 // Writes how many points there are, and the bits of each; or the number of the refusal.
@@ -75,4 +76,15 @@ fn tell(
         }
     }
     println!(out; "")
+}
+
+// All that the pools have, for the operations.
+fn whole<'a>(pools: &'a Pools<'_>) -> Lent<'a> {
+    Lent {
+        bytes: pools.bytes,
+        words: pools.words,
+        times: pools.times,
+        reals: pools.reals,
+        dists: pools.dists,
+    }
 }

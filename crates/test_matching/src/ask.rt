@@ -1,4 +1,5 @@
 // The answers.
+use ids::Lent;
 use refusals::Refusal;
 use std::io;
 use worlds::Pools;
@@ -20,7 +21,7 @@ pub(crate) fn answered(
 
 fn matched(pools: &Pools<'_>) -> Result<Option<usize>, Refusal> {
     timetable::match_trip(
-        &pools.lent(),
+        &whole(pools),
         worlds::tables(pools.words),
         worlds::journey(pools.words),
     )
@@ -28,7 +29,7 @@ fn matched(pools: &Pools<'_>) -> Result<Option<usize>, Refusal> {
 
 fn running(pools: &Pools<'_>) -> Result<bool, Refusal> {
     service_days::service_runs(
-        &pools.lent(),
+        &whole(pools),
         worlds::tables(pools.words),
         worlds::service(pools.words),
     )
@@ -47,5 +48,16 @@ fn tell_running(out: &impl Print, answer: Result<bool, Refusal>) -> io::Result<(
         Ok(true) => println!(out; "runs"),
         Ok(false) => println!(out; "rests"),
         Err(refusal) => println!(out; "refused {}", refusal.number()),
+    }
+}
+
+// All that the pools have, for the operations.
+fn whole<'a>(pools: &'a Pools<'_>) -> Lent<'a> {
+    Lent {
+        bytes: pools.bytes,
+        words: pools.words,
+        times: pools.times,
+        reals: pools.reals,
+        dists: pools.dists,
     }
 }
