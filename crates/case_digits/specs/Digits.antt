@@ -2,13 +2,13 @@
 use Rattle.std.specs.Prelude.{ℕ, ◌+◌, ◌*◌, ◌-◌, cond, List, [], ◌∷◌, ltb, length, Option, None, Some}
 use Rattle.std.specs.Option.{option_and_then}
 
--- what a digit is worth, 0 to 9 and a to f
-abbrev pub digit_of : ℕ → Option ℕ
-digit_of b = cond (ltb b 48) None (cond (ltb b 58) (Some (b - 48)) (cond (ltb b 97) None (cond (ltb b 103) (Some (b - 87)) None)))
+-- what a digit is worth, 0 to 9 and a to f; 16 for any other byte
+abbrev pub digit_of : ℕ → ℕ
+digit_of b = cond (ltb b 48) 16 (cond (ltb b 58) (b - 48) (cond (ltb b 97) 16 (cond (ltb b 103) (b - 87) 16)))
 
--- the same, of a digit that the base has
+-- the same, where it is below the base
 abbrev pub digit_below : ℕ → ℕ → Option ℕ
-digit_below base b = option_and_then (λ d. cond (ltb d base) (Some d) None) (digit_of b)
+digit_below base b = let d = digit_of b in cond (ltb d base) (Some d) None
 
 -- what digits of a base spell, after others that spell v
 unfoldable pub spelled_from : ℕ → ℕ → List ℕ → Option ℕ

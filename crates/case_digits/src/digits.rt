@@ -2,14 +2,14 @@
 ghost use Rattle.std.specs.Prelude.{◌≡◌, ◌≤◌, ◌<◌, ◌^◌, IfSome};
 ghost use Rattle.case_digits.specs.Digits.{digit_of, digit_below, spelled_of};
 
-// What a digit is worth, letters in lower case.
-fn worth(b: u8) -> Option<u64>
+// What a digit is worth, letters in lower case; 16 for any other byte.
+fn worth(b: u8) -> u64
     ensures { result ≡ digit_of b }
 {
     match b {
-        b'0'..=b'9' => Some(u64::from(b - b'0')),
-        b'a'..=b'f' => Some(u64::from(b - b'a') + 10),
-        _ => None,
+        b'0'..=b'9' => u64::from(b - b'0'),
+        b'a'..=b'f' => u64::from(b - b'a') + 10,
+        _ => 16,
     }
 }
 
@@ -18,7 +18,7 @@ pub fn digit(b: u8, base: u64) -> Option<u64>
     ensures value { result ≡ digit_below base b }
     ensures below { IfSome result (λ d. d < base) }
 {
-    worth(b).filter(|d| *d < base)
+    Some(worth(b)).filter(|d| *d < base)
 }
 
 // What one digit or more, and no more than `most`, spell in a base.

@@ -1,4 +1,4 @@
-use Rattle.std.proofs.Common.{◌≡◌, ◌∙◌, ◌<◌, ◌≤◌, sym, None, length, arith, rules}
+use Rattle.std.proofs.Common.{◌≡◌, ◌∙◌, sym, None, arith, rules}
 use Rattle.case_digits.proofs.Spelling.{digit_next, digits_over, next_power, next_fits, spelled_whole}
 use Rattle.case_digits.proofs.digits.spelled.Goals as goal
 
