@@ -124,6 +124,8 @@ pub fn draw_legs(lent: &Lent, j: JourneyLegs, sheet: &mut Sheet) -> usize
     ensures value { result ≡ length (journey_points lent.now.bytes.now lent.now.words.now lent.now.reals.now j) }
     ensures lat_after { result ≤ length sheet.old.lat.now → sheet.new.lat.now ≡ lats_of (journey_points lent.now.bytes.now lent.now.words.now lent.now.reals.now j) ++ drop result sheet.old.lat.now }
     ensures lon_after { result ≤ length sheet.old.lon.now → sheet.new.lon.now ≡ lons_of (journey_points lent.now.bytes.now lent.now.words.now lent.now.reals.now j) ++ drop result sheet.old.lon.now }
+    ensures lat_kept { length sheet.new.lat.now ≡ length sheet.old.lat.now }
+    ensures lon_kept { length sheet.new.lon.now ≡ length sheet.old.lon.now }
     ensures same { SameColumns sheet.old sheet.new }
 {
     let mut drawn = Drawn { last: None, at: 0 };

@@ -15,6 +15,8 @@ pub fn draw_stops(lent: &Lent, leg: LegRows, sheet: &mut Sheet) -> usize
     ensures value { result ≡ length (stops_drawn (trip_positions lent.now.bytes.now lent.now.words.now lent.now.reals.now leg) (ends_of_leg leg)) }
     ensures lat_after { result ≤ length sheet.old.lat.now → sheet.new.lat.now ≡ lats_of (stops_drawn (trip_positions lent.now.bytes.now lent.now.words.now lent.now.reals.now leg) (ends_of_leg leg)) ++ drop result sheet.old.lat.now }
     ensures lon_after { result ≤ length sheet.old.lon.now → sheet.new.lon.now ≡ lons_of (stops_drawn (trip_positions lent.now.bytes.now lent.now.words.now lent.now.reals.now leg) (ends_of_leg leg)) ++ drop result sheet.old.lon.now }
+    ensures lat_kept { length sheet.new.lat.now ≡ length sheet.old.lat.now }
+    ensures lon_kept { length sheet.new.lon.now ≡ length sheet.old.lon.now }
     ensures same { SameColumns sheet.old sheet.new }
 {
     if leg.count == 0 {

@@ -1,7 +1,6 @@
 -- What makes a refusal, and the first that applies: the least number whose cause is there.
-use Rattle.std.specs.Prelude.{ℕ, ◌+◌, Bool, true, false, cond, ◌||◌, List, [], ◌∷◌, ◌++◌, ltb, eqb}
+use Rattle.std.specs.Prelude.{ℕ, ◌+◌, Bool, cond, ◌||◌, List, [], ◌∷◌, ◌++◌, ltb, eqb}
 use Rattle.ids.specs.declared.pool.IdColumn.{IdColumn}
-use Rattle.ids.specs.declared.pool.Span.{Span}
 use Rattle.tables.specs.Pools.{Pools}
 use Rattle.tables.specs.declared.mark.Mark.{Mark}
 use Rattle.faults.specs.Fault.{fails_of}

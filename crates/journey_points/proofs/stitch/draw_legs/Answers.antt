@@ -23,4 +23,4 @@ loop-k-preserved c =
 
 pub returns : goal.returns
 unfolding journey_points
-returns c = record { value = (finished _ _ _ (over _ _ _ c.loop-k.invariant.2 c.loop-k-test.false)).0; lat_after = (finished _ _ _ (over _ _ _ c.loop-k.invariant.2 c.loop-k-test.false)).1.0; lon_after = (finished _ _ _ (over _ _ _ c.loop-k.invariant.2 c.loop-k-test.false)).1.1; same = c.loop-k.invariant.1 }
+returns c = record { value = (finished _ _ _ (over _ _ _ c.loop-k.invariant.2 c.loop-k-test.false)).0; lat_after = (finished _ _ _ (over _ _ _ c.loop-k.invariant.2 c.loop-k-test.false)).1.0; lon_after = (finished _ _ _ (over _ _ _ c.loop-k.invariant.2 c.loop-k-test.false)).1.1; lat_kept = c.loop-k.invariant.2.on.lats; lon_kept = c.loop-k.invariant.2.on.lons; same = c.loop-k.invariant.1 }

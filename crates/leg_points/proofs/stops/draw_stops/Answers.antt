@@ -8,7 +8,7 @@ use Rattle.leg_points.proofs.Going.{Going, start, more, counted, lat_done, lon_d
 use Rattle.leg_points.proofs.stops.draw_stops.Goals as goal
 
 pub returns-then-leg-eq0 : goal.returns-then-leg-eq0
-returns-then-leg-eq0 c = rw (nothing_drawn _ _ _ _ _ c.if-leg-eq0.true) (record { value = refl; lat_after = λ h. refl; lon_after = λ h. refl; same = (refl, refl) })
+returns-then-leg-eq0 c = rw (nothing_drawn _ _ _ _ _ c.if-leg-eq0.true) (record { value = refl; lat_after = λ h. refl; lon_after = λ h. refl; lat_kept = refl; lon_kept = refl; same = (refl, refl) })
 
 pub overflow_sub-rows : goal.overflow_sub-rows
 overflow_sub-rows c = in_order _ _ _ c.leg_ends-ends.ensures
@@ -30,4 +30,4 @@ loop-k-preserved c =
 pub returns : goal.returns
 returns c =
     let i = c.loop-k.invariant.2 in
-    let h = c.loop-k-test.false in rw (← drawn_rows _ _ _ _ _ c.leg_ends-ends.ensures (omega (arith, c.if-leg-eq0.false))) (record { value = counted _ _ _ _ _ i h; lat_after = lat_done _ _ _ _ _ i h; lon_after = lon_done _ _ _ _ _ i h; same = c.loop-k.invariant.1 })
+    let h = c.loop-k-test.false in rw (← drawn_rows _ _ _ _ _ c.leg_ends-ends.ensures (omega (arith, c.if-leg-eq0.false))) (record { value = counted _ _ _ _ _ i h; lat_after = lat_done _ _ _ _ _ i h; lon_after = lon_done _ _ _ _ _ i h; lat_kept = i.drawn.lat_long; lon_kept = i.drawn.lon_long; same = c.loop-k.invariant.1 })
