@@ -3,4 +3,4 @@
 
 mod line; // a line's rows, and the one that fits best
 
-pub use line::Line;
+pub use line::{Line, fit_at, on_line};

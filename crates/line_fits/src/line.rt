@@ -3,13 +3,42 @@
 ghost use Rattle.std.specs.Prelude.{◌≡◌};
 ghost use Rattle.ids.specs.Pool.{cell_of};
 ghost use Rattle.trip_fits.specs.Fits.{trip_fit};
+ghost use Rattle.trip_fits.specs.Plans.{Planned};
 ghost use Rattle.line_fits.specs.Lines.{on_line, line_from, kept_of, best_of};
 
 use departure_fits::{Fit, away_of};
+use ids::Lent;
 use row_lookup::seek;
 use row_stands::{Rows, stands};
 use std::cmp::Ordering;
-use trip_fits::{Asked, Timetable};
+use trip_fits::{Asked, Plan, Timetable};
+
+// Whether row k of the line entries has the token.
+pub fn on_line(lent: &Lent, plan: Plan, token: &[u8], k: usize) -> bool
+    ensures { result ≡ on_line lent.now.bytes.now lent.now.words.now plan token.now k }
+{
+    match stands(
+        lent,
+        Rows::Lines(plan.lines.token),
+        k,
+        token,
+        &token[..0],
+        0,
+        0,
+    ) {
+        Ordering::Less => false,
+        Ordering::Equal => true,
+        Ordering::Greater => false,
+    }
+}
+
+// How well row k's trip fits.
+pub fn fit_at(timetable: &Timetable, asked: Asked, k: usize) -> Option<Fit>
+    ensures { result ≡ trip_fit timetable.now.lent.bytes.now timetable.now.lent.words.now timetable.now.plan asked.today asked.yesterday (cell_of timetable.now.lent.words.now timetable.now.plan.lines.trip k) }
+{
+    let trip = timetable.plan.lines.trip;
+    timetable.fit_of(asked, ids::cell(timetable.lent.words, trip, k) as usize)
+}
 
 // The row found so far, and how far away it is.
 #[derive(Clone, Copy)]
@@ -28,12 +57,13 @@ fn kept(best: Best, away: u64, k: usize) -> Best
     best
 }
 
-// The line of a token: its rows are the line entries that have it, from the first on.
+// The line of a token: its rows are the line entries that have it, from the first on. The line entries ascend.
 #[derive(Clone, Copy)]
 pub struct Line<'a, 'b> {
     pub timetable: Timetable<'a>,
     pub token: &'b [u8],
     pub from: usize,
+    pub ghost planned: { Planned timetable.lent.bytes.now timetable.lent.words.now timetable.plan },
     pub ghost begins: { from ≡ line_from timetable.lent.bytes.now timetable.lent.words.now timetable.plan token.now },
 }
 
@@ -42,6 +72,7 @@ impl<'a, 'b> Line<'a, 'b> {
 
     // From its first row on, or from past all where it has none.
     pub fn new(timetable: &Timetable<'a>, token: &'b [u8]) -> Line<'a, 'b>
+        requires planned { Planned timetable.now.lent.bytes.now timetable.now.lent.words.now timetable.now.plan }
         ensures timetable_is { result.timetable ≡ timetable.now }
         ensures token_is { result.token.now ≡ token.now }
     {
@@ -66,20 +97,7 @@ impl<'a, 'b> Line<'a, 'b> {
     pub fn has(&self, k: usize) -> bool
         ensures { result ≡ on_line self.now.timetable.lent.bytes.now self.now.timetable.lent.words.now self.now.timetable.plan self.now.token.now k }
     {
-        let rows = Rows::Lines(self.timetable.plan.lines.token);
-        match stands(
-            &self.timetable.lent,
-            rows,
-            k,
-            self.token,
-            &self.token[..0],
-            0,
-            0,
-        ) {
-            Ordering::Less => false,
-            Ordering::Equal => true,
-            Ordering::Greater => false,
-        }
+        on_line(&self.timetable.lent, self.timetable.plan, self.token, k)
     }
 
     // The trip of row k.
@@ -93,7 +111,7 @@ impl<'a, 'b> Line<'a, 'b> {
     pub fn fit_at(&self, asked: Asked, k: usize) -> Option<Fit>
         ensures { result ≡ trip_fit self.now.timetable.lent.bytes.now self.now.timetable.lent.words.now self.now.timetable.plan asked.today asked.yesterday (cell_of self.now.timetable.lent.words.now self.now.timetable.plan.lines.trip k) }
     {
-        self.timetable.fit_of(asked, self.trip_at(k))
+        fit_at(&self.timetable, asked, k)
     }
 
     // The first row than which none is nearer.

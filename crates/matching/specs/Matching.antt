@@ -6,8 +6,8 @@ use Rattle.tokens.specs.Tokens.{token_of}
 use Rattle.alias_keys.specs.Aliases.{Known}
 use Rattle.named_trips.specs.Named.{id_trip}
 use Rattle.trip_tails.specs.Tails.{tail_trip}
-use Rattle.trip_fits.specs.Plans.{Planned, ShortTokens}
-use Rattle.trip_times.specs.Line.{line_trip}
+use Rattle.trip_fits.specs.Plans.{Planned}
+use Rattle.trip_times.specs.Line.{line_trip, ShortTokens}
 use Rattle.departure_fits.specs.declared.departure.Count.{Count}
 use Rattle.trip_fits.specs.declared.fit.Plan.{Plan}
 use Rattle.matching.specs.declared.whole.Named.{Named}

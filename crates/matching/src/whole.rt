@@ -1,5 +1,7 @@
 // Every way of finding a trip, in its turn.
 ghost use Rattle.std.specs.Prelude.{◌≡◌};
+ghost use Rattle.trip_fits.specs.Plans.{Planned};
+ghost use Rattle.trip_times.specs.Line.{ShortTokens};
 ghost use Rattle.matching.specs.Matching.{timed_trip, match_of, Ready};
 
 use alias_keys::TripIds;
@@ -26,6 +28,8 @@ fn by_time<'a>(
     departs: bool,
     asked: Asked,
 ) -> Option<usize>
+    requires planned { Planned timetable.now.lent.bytes.now timetable.now.lent.words.now timetable.now.plan }
+    requires short_tokens { ShortTokens timetable.now.lent.bytes.now timetable.now.lent.words.now timetable.now.plan }
     ensures { result ≡ timed_trip timetable.now.lent.bytes.now timetable.now.lent.words.now timetable.now.plan base.now route.now departs asked.today asked.yesterday }
 {
     let token = tokens::token_of(route, base);

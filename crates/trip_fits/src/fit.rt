@@ -1,7 +1,7 @@
 // How well a trip's first departure fits the moment asked of.
 ghost use Rattle.std.specs.Prelude.{◌≡◌, leb, ◌&&◌};
+ghost use Rattle.services.specs.Runs.{Calendared};
 ghost use Rattle.trip_fits.specs.Fits.{runs_on, departing, trip_fit};
-ghost use Rattle.trip_fits.specs.Plans.{Planned, ShortTokens};
 
 use departure_fits::{Count, Fit, fit_if, nearer_of};
 use ids::{Lent, Span};
@@ -27,13 +27,12 @@ pub struct Asked {
     pub yesterday: Count,
 }
 
-// A plan in the lent tables, whose line entries and calendars ascend, and whose tokens are short.
+// A plan in the lent tables, whose calendar tables ascend.
 #[derive(Clone, Copy)]
 pub struct Timetable<'a> {
     pub lent: Lent<'a>,
     pub plan: Plan,
-    pub ghost planned: { Planned lent.bytes.now lent.words.now plan },
-    pub ghost short: { ShortTokens lent.bytes.now lent.words.now plan },
+    pub ghost calendared: { Calendared lent.bytes.now lent.words.now plan.calendars plan.ranges plan.exceptions },
 }
 
 impl<'a> Timetable<'a> {

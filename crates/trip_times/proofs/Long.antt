@@ -12,10 +12,9 @@ use Rattle.row_lookup.specs.Rows.{row_is}
 use Rattle.row_lookup.proofs.Halves.{is_other, parts_same}
 use Rattle.departure_fits.specs.declared.departure.Count.{Count}
 use Rattle.trip_fits.specs.declared.fit.Plan.{Plan}
-use Rattle.trip_fits.specs.Plans.{ShortTokens}
 use Rattle.line_fits.specs.Lines.{on_line, row_fit}
 use Rattle.line_fits.proofs.Best.{none_yet, off_line}
-use Rattle.trip_times.specs.Line.{line_trip}
+use Rattle.trip_times.specs.Line.{line_trip, ShortTokens}
 
 module _ (bytes words : List ℕ) (p : Plan) (short : ShortTokens bytes words p) (token : List ℕ) (long : 96 < length token) (today yesterday : Count) where
   off_every_line : (k : ℕ) → k < p.lines.trip.n → on_line bytes words p token k ≡ false

@@ -1,6 +1,6 @@
 -- The trip of a line that fits the moment asked of best.
-use Rattle.std.specs.Prelude.{ℕ, cond, List, Option, Some, None}
-use Rattle.ids.specs.Pool.{cell_of}
+use Rattle.std.specs.Prelude.{ℕ, ◌<◌, ◌≤◌, cond, List, length, Option, Some, None}
+use Rattle.ids.specs.Pool.{cell_of, id_of}
 use Rattle.departure_fits.specs.declared.departure.Count.{Count}
 use Rattle.departure_fits.specs.declared.departure.Fit.{Fit}
 use Rattle.trip_fits.specs.declared.fit.Plan.{Plan}
@@ -21,3 +21,7 @@ trip_at words p None = None
 unfoldable pub line_trip : List ℕ → List ℕ → Plan → List ℕ → Count → Count → Option ℕ
 line_trip bytes words p token today yesterday =
     let fits = row_fit bytes words p token today yesterday in trip_at words p (alone fits p.lines.trip.n (best_of fits p.lines.trip.n))
+
+-- no token is over 96 bytes
+pub record ShortTokens (bytes words : List ℕ) (p : Plan) : Type 0 where
+  pub short : (k : ℕ) → k < p.lines.trip.n → length (id_of bytes words p.lines.token k) ≤ 96

@@ -13,14 +13,14 @@ pub loop-k-init : goal.loop-k-init
 loop-k-init c =
     let a = c.args in
     let s = a.line.now in
-    record { before = λ j l. not_beside (fits_of s a.asked) a.b j (before_line s.timetable.lent.bytes.now s.timetable.lent.words.now s.timetable.plan s.token.now a.asked.today a.asked.yesterday s.timetable.planned s.from s.begins j l (omega (arith, within s))) }
+    record { before = λ j l. not_beside (fits_of s a.asked) a.b j (before_line s.timetable.lent.bytes.now s.timetable.lent.words.now s.timetable.plan s.token.now a.asked.today a.asked.yesterday s.planned s.from s.begins j l (omega (arith, within s))) }
 
 pub returns-then-not-has : goal.returns-then-not-has
 returns-then-not-has c =
     let a = c.args in
     let s = a.line.now in
     let off : c.has.result ≡ false = c.if-not-has.true in
-    let never = after_line s.timetable.lent.bytes.now s.timetable.lent.words.now s.timetable.plan s.token.now a.asked.today a.asked.yesterday s.timetable.planned s.from s.begins c.loop-k.k (omega arith) (omega arith) (sym c.has.ensures ∙ off) in
+    let never = after_line s.timetable.lent.bytes.now s.timetable.lent.words.now s.timetable.plan s.token.now a.asked.today a.asked.yesterday s.planned s.from s.begins c.loop-k.k (omega arith) (omega arith) (sym c.has.ensures ∙ off) in
     over s.timetable.plan.lines.trip.n (missed_rest (fits_of s a.asked) a.b c.loop-k.k s.timetable.plan.lines.trip.n c.loop-k.invariant never) (omega arith)
 
 pub returns-then-is_beside : goal.returns-then-is_beside

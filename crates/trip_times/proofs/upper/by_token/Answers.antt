@@ -14,7 +14,7 @@ pub returns-then-token-gt96 : goal.returns-then-token-gt96
 returns-then-token-gt96 c =
     let a = c.args in
     let t = a.timetable.now in
-    too_long t.lent.bytes.now t.lent.words.now t.plan t.short (map upper_of a.token.now) (omega (arith, c.if-token-gt96.true, length-map a.token.now upper_of)) a.asked.today a.asked.yesterday
+    too_long t.lent.bytes.now t.lent.words.now t.plan c.requires.short_tokens (map upper_of a.token.now) (omega (arith, c.if-token-gt96.true, length-map a.token.now upper_of)) a.asked.today a.asked.yesterday
 
 pub slice_bounds-by_line-end : goal.slice_bounds-by_line-end
 slice_bounds-by_line-end c = sym (length-take-le _ _ (omega arith))

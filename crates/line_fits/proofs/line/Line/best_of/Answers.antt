@@ -11,7 +11,7 @@ pub loop-k-init : goal.loop-k-init
 loop-k-init c =
     let a = c.args in
     let s = a.self.now in
-    let none = none_yet (fits_of s a.asked) s.from (λ j l. before_line s.timetable.lent.bytes.now s.timetable.lent.words.now s.timetable.plan s.token.now a.asked.today a.asked.yesterday s.timetable.planned s.from s.begins j l (omega (arith, within s))) in
+    let none = none_yet (fits_of s a.asked) s.from (λ j l. before_line s.timetable.lent.bytes.now s.timetable.lent.words.now s.timetable.plan s.token.now a.asked.today a.asked.yesterday s.planned s.from s.begins j l (omega (arith, within s))) in
     rw none
 
 pub returns-then-not-has : goal.returns-then-not-has
@@ -20,7 +20,7 @@ returns-then-not-has c =
     let s = a.self.now in
     let off : c.has.result ≡ false = c.if-not-has.true in
     ap (λ (b : _). b.at) c.loop-k.invariant
-    ∙ sym (none_more (fits_of s a.asked) s.timetable.plan.lines.trip.n c.loop-k.k (omega arith) (after_line s.timetable.lent.bytes.now s.timetable.lent.words.now s.timetable.plan s.token.now a.asked.today a.asked.yesterday s.timetable.planned s.from s.begins c.loop-k.k (omega arith) (omega arith) (sym c.has.ensures ∙ off)))
+    ∙ sym (none_more (fits_of s a.asked) s.timetable.plan.lines.trip.n c.loop-k.k (omega arith) (after_line s.timetable.lent.bytes.now s.timetable.lent.words.now s.timetable.plan s.token.now a.asked.today a.asked.yesterday s.planned s.from s.begins c.loop-k.k (omega arith) (omega arith) (sym c.has.ensures ∙ off)))
 
 pub loop-k-preserved : goal.loop-k-preserved
 loop-k-preserved c =

@@ -1,6 +1,6 @@
 use mathlib.Core.Path.{◌∙◌, ap, sym}
 use Rattle.row_lookup.specs.Rows.{is_same, row_is}
-use Rattle.line_fits.proofs.line.Line.has.Goals as goal
+use Rattle.line_fits.proofs.line.on_line.Goals as goal
 
 pub returns-in-Less : goal.returns-in-Less
 unfolding row_is
