@@ -77,5 +77,6 @@ pub extern "C" fn zebumorn_journey_geometry(
         dists,
     };
     let mut sheet = Sheet { lat, lon };
-    told(journey_geometry(&lent, j, &mut sheet), points)
+    let journey = journey_geometry(&lent, j, &mut sheet);
+    told(journey, points)
 }

@@ -1,8 +1,9 @@
 -- `exports_backfill::zebumorn_backfill_trips` meets its contract: backfill's answer, told.
 use borrow.Author.Rules.{rules}
+use native.Mathlib.Omega.{arith}
 use mathlib.Core.Path.{ap, ◌∙◌}
 use Rattle.refusals.specs.Answer.{number_of}
 use Rattle.exports_backfill.proofs.zebumorn_backfill_trips.Goals as goal
 
 pub returns : goal.returns
-returns c = let e = c.backfill_trips.ensures in record { value = c.number_or_zero.ensures ∙ ap number_of e.result_value; dist_after = e.dist_after; measured_after = e.measured_after }
+returns c = let e = c.backfill_trips.ensures in record { value = omega (arith, c.number_or_zero.ensures ∙ ap number_of e.result_value); dist_after = e.dist_after; measured_after = e.measured_after }
