@@ -27,7 +27,13 @@ pub enum NotPut {
 
 impl Pools<'_> {
     // What of them the operations are lent.
-    pub fn lent(&self) -> Lent<'_> {
+    pub fn lent(&self) -> Lent<'_>
+        ensures bytes { result.bytes.now ≡ self.now.bytes.now }
+        ensures words { result.words.now ≡ self.now.words.now }
+        ensures times { result.times.now ≡ self.now.times.now }
+        ensures reals { result.reals.now ≡ self.now.reals.now }
+        ensures dists { result.dists.now ≡ self.now.dists.now }
+    {
         Lent {
             bytes: self.bytes,
             words: self.words,

@@ -32,6 +32,7 @@ fn bound(words: &[u32], k: usize, chart: u32) -> u32 {
 // The whole of pool k, of which the world has so much.
 pub fn pool(words: &[u32], k: usize) -> Span
     requires { k < 5 }
+    ensures { result ≡ record { at = 0; n = get_or words.now (7 + k) 0 } }
 {
     Span {
         at: 0,

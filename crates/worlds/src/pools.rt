@@ -1,5 +1,6 @@
 // The five pools of a test's world: what a script puts into them, and what of them the operations are lent.
-ghost use Rattle.std.specs.Prelude.{◌≡◌, ◌<◌, ◌≤◌, ◌↔◌, IsTrue, length, slice_set};
+ghost use Rattle.std.specs.Prelude.{◌≡◌, ◌<◌, ◌≤◌, ◌↔◌, IsTrue, get_or, length, slice_set};
+ghost use Rattle.tables.specs.Pools.{part_of};
 
 use crate::layout::pool;
 use ids::Lent;
@@ -17,7 +18,13 @@ pub struct Pools<'a> {
 
 impl Pools<'_> {
     /// What the words that lay the world out say that it has of each pool.
-    pub fn lent(&self) -> Lent<'_> {
+    pub fn lent(&self) -> Lent<'_>
+        ensures bytes { result.bytes.now ≡ part_of self.now.bytes.now (record { at = 0; n = get_or self.now.words.now 7 0 }) }
+        ensures words { result.words.now ≡ part_of self.now.words.now (record { at = 0; n = get_or self.now.words.now 8 0 }) }
+        ensures times { result.times.now ≡ part_of self.now.times.now (record { at = 0; n = get_or self.now.words.now 9 0 }) }
+        ensures reals { result.reals.now ≡ part_of self.now.reals.now (record { at = 0; n = get_or self.now.words.now 10 0 }) }
+        ensures dists { result.dists.now ≡ part_of self.now.dists.now (record { at = 0; n = get_or self.now.words.now 11 0 }) }
+    {
         Lent {
             bytes: cut(self.bytes, pool(self.words, 0)),
             words: cut(self.words, pool(self.words, 1)),
