@@ -15,5 +15,8 @@ pub fn put_rows(rows: &[f64], out: &mut [f64])
     requires { length rows.now ≤ length out.old }
     ensures { out.new ≡ rows.now ++ drop (length rows.now) out.old }
 {
-    out[..rows.len()].copy_from_slice(rows);
+    // row by row, since a copy of a slice calls the C library's memmove
+    for k in 0..rows.len() {
+        out[k] = rows[k];
+    }
 }

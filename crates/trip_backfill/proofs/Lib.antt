@@ -1,2 +1,3 @@
 -- `Rooms`: the operations.
 pub mod Rooms
+mod Copying

@@ -1,5 +1,5 @@
 // The trips of the lent tables, in table order. A row that two trips share is filled when the second is come to.
-ghost use Rattle.std.specs.Prelude.{◌≡◌, ◌-◌, ◌≤◌, length};
+ghost use Rattle.std.specs.Prelude.{◌≡◌, ◌-◌, ◌≤◌, length, take};
 ghost use Rattle.refusals.specs.Answer.{answer_of};
 ghost use Rattle.tables.specs.Pools.{pools_of};
 ghost use Rattle.row_distances.specs.Rows.{rows_of, dists_in, marks_in};
@@ -33,6 +33,16 @@ fn backfill_each(lent: &Lent, t: Tables, a: usize, e: usize, dist: &mut [f32], m
     }
 }
 
+// As many rows as there is room for; row by row, since a copy of a slice calls the C library's memmove.
+fn copy<T: Copy>(from: &[T], to: &mut [T])
+    requires { length to.old ≤ length from.now }
+    ensures { to.new ≡ take (length to.old) from.now }
+{
+    for k in 0..to.len() {
+        to[k] = from[k];
+    }
+}
+
 // The same, into outputs of as many rows as the columns have.
 fn lay(
     lent: &Lent,
@@ -49,8 +59,8 @@ fn lay(
     ensures dist_after { dist.new ≡ dists_in (after_trips lent.now.bytes.now lent.now.words.now lent.now.reals.now t a (e - a) (rows_of column.now flags.now)) }
     ensures measured_after { measured.new ≡ marks_in (after_trips lent.now.bytes.now lent.now.words.now lent.now.reals.now t a (e - a) (rows_of column.now flags.now)) }
 {
-    dist.copy_from_slice(&column[..dist.len()]);
-    measured.copy_from_slice(&flags[..measured.len()]);
+    copy(column, dist);
+    copy(flags, measured);
     backfill_each(lent, t, a, e, dist, measured);
 }
 
